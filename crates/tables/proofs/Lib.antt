@@ -1,0 +1,7 @@
+pub mod Computed
+pub mod Entries
+pub mod Filled
+pub mod Judged
+pub mod Largest
+pub mod Sections
+pub mod Telling

@@ -1,0 +1,6 @@
+pub mod Faults
+pub mod Image
+pub mod Judging
+pub mod Loaded
+pub mod Share
+pub mod Table
