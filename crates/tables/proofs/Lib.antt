@@ -5,3 +5,4 @@ pub mod Judged
 pub mod Largest
 pub mod Sections
 pub mod Telling
+pub mod Verdicts

@@ -4,7 +4,7 @@ use mathlib.Core.Path.{_≡_}
 use mathlib.Core.Logic.{_⊎_}
 use mathlib.Core.List.{List, [], _∷_}
 use lib.ListN.{length, getD, take, drop}
-use Rattle.tables.specs.Table.{Table}
+use Rattle.tables.specs.Table.{Table, Same}
 use Rattle.tables.specs.declared.faults.LoadFault.{LoadFault}
 use Rattle.tables.specs.declared.faults.LoadFault.the-variants.{Read, Classes, States, StepCount, NextState, LeftOver}
 
@@ -114,3 +114,15 @@ HasFault image (States p) = WrongAt image state-count p
 HasFault image (StepCount p) = WrongAt image step-count p
 HasFault image (NextState p) = WrongAt image step p
 HasFault image (LeftOver p) = WrongAt image end p
+
+-- The image writes down a table, or it has a fault.
+abbrev pub HasVerdict : List ℕ → Type 0
+HasVerdict image = ((t : Table) × WritesDown image t) ⊎ ((f : LoadFault) × HasFault image f)
+
+-- Of every image exactly one holds: it writes down a table, or it has one of the six faults, and no other;
+-- and it writes down at most one table.
+pub record Verdicts (image : List ℕ) : Type 0 where
+  pub one : HasVerdict image
+  pub not-both : (t : Table) (f : LoadFault) → WritesDown image t → HasFault image f → ⊥
+  pub one-fault : (f g : LoadFault) → HasFault image f → HasFault image g → f ≡ g
+  pub one-table : (t u : Table) → WritesDown image t → WritesDown image u → Same t u

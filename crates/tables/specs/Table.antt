@@ -32,3 +32,9 @@ pub record Empty (t : Table) : Type 0 where
   pub one : t .states ≡ 1
   pub stays : (s b : ℕ) → t .next s b ≡ 0
   pub accepts-nothing : (s : ℕ) → t .label s ≡ 0
+
+-- Two tables tell the same.
+pub record Same (t u : Table) : Type 0 where
+  pub states : t .states ≡ u .states
+  pub next : (s b : ℕ) → s < t .states → b < 256 → t .next s b ≡ u .next s b
+  pub label : (s : ℕ) → s < t .states → t .label s ≡ u .label s

@@ -2,8 +2,9 @@
 ghost use Rattle.tables.specs.Image.{class-count, class, state-count, label, step-count, step, end, HasFault, OrderlyBefore, WritesDown, classCount, countAt, labelsEnd, stateCount, stepsEnd};
 ghost use Rattle.tables.specs.Judging.{Judged, Measured};
 ghost use Rattle.tables.specs.Loaded.{tableOf};
-ghost use Rattle.tables.specs.Table.{Empty};
-ghost use Rattle.std.specs.Results.{Cases};
+ghost use Rattle.tables.specs.Table.{Empty, Table};
+ghost use Rattle.std.specs.Orderings.{Decides};
+ghost use Rattle.std.specs.Results.{Cases, isOk};
 ghost use mathlib.Core.Path.{_≡_};
 ghost use Prim.Native.Nat.{_+_, _*_, _<_, _≤_};
 ghost use mathlib.Core.List.{_++_};
@@ -203,7 +204,8 @@ impl LoadedTable {
 
     // Loads the table that `image` writes down, or tells the image's fault and leaves the table as it was.
     pub fn load(&mut self, image: &[u8]) -> Result<(), LoadFault>
-        ensures { λ r. ⌜ Cases r (λ _. WritesDown (now (image .entry)) (tableOf (now (self .exit)))) (λ f. HasFault (now (image .entry)) f × (now (self .exit) ≡ now (self .entry))) ⌝ }
+        ensures cases { λ r. ⌜ Cases r (λ _. WritesDown (now (image .entry)) (tableOf (now (self .exit)))) (λ f. HasFault (now (image .entry)) f × (now (self .exit) ≡ now (self .entry))) ⌝ }
+        ensures exact { λ r. ⌜ Decides (isOk r) ((t : Table) × WritesDown (now (image .entry)) t) ⌝ }
     {
         let size = judge(image)?;
         self.fill(image, size);
