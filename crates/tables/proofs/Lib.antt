@@ -1,8 +1,2 @@
 pub mod Computed
-pub mod Entries
-pub mod Filled
-pub mod Judged
-pub mod Largest
-pub mod Sections
 pub mod Telling
-pub mod Verdicts

@@ -4,8 +4,8 @@ use mathlib.Core.Bool.{Bool, true}
 use Prim.Native.Nat.{ℕ}
 use lib.Dec.{eqb}
 use Rattle.std.proofs.shelf.Tests.{eqb-true}
-use Rattle.tables.specs.declared.share.Kind.{Kind}
-use Rattle.tables.specs.declared.share.Kind.the-variants.{Digit, Letter, Blank, CarriageReturn, LineFeed, Percent, Point, Other}
+use Rattle.tables.specs.declared.kinds.Kind.{Kind}
+use Rattle.tables.specs.declared.kinds.Kind.the-variants.{Digit, Letter, Blank, CarriageReturn, LineFeed, Percent, Point, Other}
 use Rattle.tables.specs.Share.{code, same}
 use lib.ListN.{getD}
 use mathlib.Core.List.{List, [], _∷_}

@@ -1,6 +1,2 @@
-pub mod Faults
-pub mod Image
-pub mod Judging
-pub mod Loaded
 pub mod Share
 pub mod Table

@@ -5,8 +5,8 @@ use mathlib.Core.List.{List, [], _∷_}
 use lib.Dec.{leb, eqb}
 use lib.ListN.{getD}
 use Rattle.tables.specs.Table.{Table}
-use Rattle.tables.specs.declared.share.Kind.{Kind}
-use Rattle.tables.specs.declared.share.Kind.the-variants.{Digit, Letter, Blank, CarriageReturn, LineFeed, Percent, Point, Other}
+use Rattle.tables.specs.declared.kinds.Kind.{Kind}
+use Rattle.tables.specs.declared.kinds.Kind.the-variants.{Digit, Letter, Blank, CarriageReturn, LineFeed, Percent, Point, Other}
 
 -- low to high, both included
 abbrev pub within : ℕ → ℕ → ℕ → Bool

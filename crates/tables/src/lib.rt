@@ -1,7 +1,4 @@
-// Rule tables: what every table tells, the share table, and tables loaded from images.
-pub mod faults;
-pub mod laws;
-pub mod loaded;
-mod reader;
+// Rule tables: what every table tells, and the share table.
+pub mod kinds;
 pub mod share;
 pub mod table;

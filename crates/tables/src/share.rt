@@ -1,67 +1,9 @@
 // The share table: the tokens of a list of motors and their shares of current.
-ghost use Rattle.tables.specs.Share.{goes, kindOf, labels, shareTable, steps};
+ghost use Rattle.tables.specs.Share.{goes, labels, shareTable, steps};
 ghost use mathlib.Core.Path.{_≡_};
 ghost use lib.ListN.{getD};
-ghost use Prim.Native.Nat.{_<_};
+use crate::kinds::Kind;
 use crate::table::RuleTable;
-
-// What the share table tells apart in a byte.
-#[derive(Clone, Copy, PartialEq, Eq, Debug)]
-pub enum Kind {
-    Digit,
-    Letter,
-    Blank,
-    CarriageReturn,
-    LineFeed,
-    Percent,
-    Point,
-    Other,
-}
-
-// The kind of each byte, at its place.
-static KINDS: [Kind; 256] = [
-    Kind::Other, Kind::Other, Kind::Other, Kind::Other, Kind::Other, Kind::Other, Kind::Other, Kind::Other,
-    Kind::Other, Kind::Blank, Kind::LineFeed, Kind::Other, Kind::Other, Kind::CarriageReturn, Kind::Other, Kind::Other,
-    Kind::Other, Kind::Other, Kind::Other, Kind::Other, Kind::Other, Kind::Other, Kind::Other, Kind::Other,
-    Kind::Other, Kind::Other, Kind::Other, Kind::Other, Kind::Other, Kind::Other, Kind::Other, Kind::Other,
-    Kind::Blank, Kind::Other, Kind::Other, Kind::Other, Kind::Other, Kind::Percent, Kind::Other, Kind::Other,
-    Kind::Other, Kind::Other, Kind::Other, Kind::Other, Kind::Other, Kind::Other, Kind::Point, Kind::Other,
-    Kind::Digit, Kind::Digit, Kind::Digit, Kind::Digit, Kind::Digit, Kind::Digit, Kind::Digit, Kind::Digit,
-    Kind::Digit, Kind::Digit, Kind::Other, Kind::Other, Kind::Other, Kind::Other, Kind::Other, Kind::Other,
-    Kind::Other, Kind::Letter, Kind::Letter, Kind::Letter, Kind::Letter, Kind::Letter, Kind::Letter, Kind::Letter,
-    Kind::Letter, Kind::Letter, Kind::Letter, Kind::Letter, Kind::Letter, Kind::Letter, Kind::Letter, Kind::Letter,
-    Kind::Letter, Kind::Letter, Kind::Letter, Kind::Letter, Kind::Letter, Kind::Letter, Kind::Letter, Kind::Letter,
-    Kind::Letter, Kind::Letter, Kind::Letter, Kind::Other, Kind::Other, Kind::Other, Kind::Other, Kind::Other,
-    Kind::Other, Kind::Letter, Kind::Letter, Kind::Letter, Kind::Letter, Kind::Letter, Kind::Letter, Kind::Letter,
-    Kind::Letter, Kind::Letter, Kind::Letter, Kind::Letter, Kind::Letter, Kind::Letter, Kind::Letter, Kind::Letter,
-    Kind::Letter, Kind::Letter, Kind::Letter, Kind::Letter, Kind::Letter, Kind::Letter, Kind::Letter, Kind::Letter,
-    Kind::Letter, Kind::Letter, Kind::Letter, Kind::Other, Kind::Other, Kind::Other, Kind::Other, Kind::Other,
-    Kind::Other, Kind::Other, Kind::Other, Kind::Other, Kind::Other, Kind::Other, Kind::Other, Kind::Other,
-    Kind::Other, Kind::Other, Kind::Other, Kind::Other, Kind::Other, Kind::Other, Kind::Other, Kind::Other,
-    Kind::Other, Kind::Other, Kind::Other, Kind::Other, Kind::Other, Kind::Other, Kind::Other, Kind::Other,
-    Kind::Other, Kind::Other, Kind::Other, Kind::Other, Kind::Other, Kind::Other, Kind::Other, Kind::Other,
-    Kind::Other, Kind::Other, Kind::Other, Kind::Other, Kind::Other, Kind::Other, Kind::Other, Kind::Other,
-    Kind::Other, Kind::Other, Kind::Other, Kind::Other, Kind::Other, Kind::Other, Kind::Other, Kind::Other,
-    Kind::Other, Kind::Other, Kind::Other, Kind::Other, Kind::Other, Kind::Other, Kind::Other, Kind::Other,
-    Kind::Other, Kind::Other, Kind::Other, Kind::Other, Kind::Other, Kind::Other, Kind::Other, Kind::Other,
-    Kind::Other, Kind::Other, Kind::Other, Kind::Other, Kind::Other, Kind::Other, Kind::Other, Kind::Other,
-    Kind::Other, Kind::Other, Kind::Other, Kind::Other, Kind::Other, Kind::Other, Kind::Other, Kind::Other,
-    Kind::Other, Kind::Other, Kind::Other, Kind::Other, Kind::Other, Kind::Other, Kind::Other, Kind::Other,
-    Kind::Other, Kind::Other, Kind::Other, Kind::Other, Kind::Other, Kind::Other, Kind::Other, Kind::Other,
-    Kind::Other, Kind::Other, Kind::Other, Kind::Other, Kind::Other, Kind::Other, Kind::Other, Kind::Other,
-    Kind::Other, Kind::Other, Kind::Other, Kind::Other, Kind::Other, Kind::Other, Kind::Other, Kind::Other,
-    Kind::Other, Kind::Other, Kind::Other, Kind::Other, Kind::Other, Kind::Other, Kind::Other, Kind::Other,
-    Kind::Other, Kind::Other, Kind::Other, Kind::Other, Kind::Other, Kind::Other, Kind::Other, Kind::Other,
-];
-
-impl Kind {
-    // The kind of `byte`.
-    pub fn of(byte: u8) -> Kind
-        ensures { λ r. ⌜ r ≡ kindOf byte ⌝ }
-    {
-        KINDS[byte as usize]
-    }
-}
 
 // The number of states.
 const STATES: usize = 11;

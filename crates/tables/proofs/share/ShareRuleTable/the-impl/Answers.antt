@@ -5,7 +5,7 @@ use mathlib.Core.List.{List, [], _∷_}
 use Prim.Native.Nat.{ℕ, suc, _<_}
 use lib.Dec.{eqb, ltb, lit<, lit≤}
 use Rattle.std.proofs.shelf.Tests.{and-parts, cond-both, ltb-true}
-use Rattle.tables.specs.declared.share.Kind.{Kind}
+use Rattle.tables.specs.declared.kinds.Kind.{Kind}
 use Rattle.tables.specs.Share.{Step, steps, goes, same, labels, kindOf}
 use Rattle.tables.proofs.Computed.{every, at}
 use Rattle.tables.proofs.share.ShareRuleTable.the-impl.Needs as need

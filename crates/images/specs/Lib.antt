@@ -1,0 +1,4 @@
+pub mod Faults
+pub mod Image
+pub mod Judging
+pub mod Loaded

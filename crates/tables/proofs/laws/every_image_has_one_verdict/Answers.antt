@@ -1,5 +1,0 @@
-use Rattle.tables.proofs.Verdicts.{verdicts}
-use Rattle.tables.proofs.laws.every_image_has_one_verdict.Needs as need
-
-pub returns : need.returns
-returns c = verdicts

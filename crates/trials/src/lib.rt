@@ -1,0 +1,3 @@
+// Examples of what the library does, each proved safe and then run.
+#[cfg(test)]
+mod tables;
