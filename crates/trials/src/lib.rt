@@ -1,3 +1,5 @@
 // Examples of what the library does, each proved safe and then run.
 #[cfg(test)]
+mod script;
+#[cfg(test)]
 mod tables;

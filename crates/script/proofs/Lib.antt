@@ -1,0 +1,9 @@
+pub mod Cutting
+pub mod Ending
+pub mod Pairing
+pub mod Playing
+pub mod Printed
+pub mod Saying
+pub mod Spelled
+pub mod Standing
+pub mod Valued

@@ -1,0 +1,30 @@
+-- The names of the commands.
+use Prim.Native.Nat.{ℕ}
+use lib.Chars.{codes}
+use mathlib.Core.Bool.{cond}
+use mathlib.Core.List.{List, [], _∷_}
+use Rattle.std.specs.shelf.Text.{sameBytes}
+use Rattle.std.specs.declared.option.Option.{Option}
+use Rattle.std.specs.declared.option.Option.the-variants.{Some, None}
+use Rattle.script.specs.declared.name.Name.{Name}
+use Rattle.script.specs.declared.name.Name.the-variants.{Share, Load, Table, States, Next, Label}
+
+-- How a name is spelled.
+abbrev pub spelled : Name → List ℕ
+spelled Share = codes "share"
+spelled Load = codes "load"
+spelled Table = codes "table"
+spelled States = codes "states"
+spelled Next = codes "next"
+spelled Label = codes "label"
+
+abbrev pub names : List Name
+names = Share ∷ Load ∷ Table ∷ States ∷ Next ∷ Label ∷ []
+
+-- The name among others that a word spells.
+abbrev pub among : List Name → List ℕ → Option Name
+among [] word = None
+among (n ∷ ns) word = cond (sameBytes word (spelled n)) (Some n) (among ns word)
+
+abbrev pub nameOf : List ℕ → Option Name
+nameOf = among names

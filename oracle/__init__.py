@@ -1,0 +1,1 @@
+"""A model of the library, written from docs/ alone, to compare the programs with."""
