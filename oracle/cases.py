@@ -13,13 +13,15 @@ class Case:
 
     Cases run one after the other in one process, so that a case brings the world to
     where it wants it by its own first commands. One that is `alone` has a process of
-    its own: it asks of the world as it is at first, or does not end with LF.
+    its own: it asks of the world as it is at first, or does not end with LF. One that
+    is `big` has its own too, and is not reduced where it differs.
     `things` is the number of things of the suite's kind that the case tries.
     """
 
     script: bytes
     things: int = 1
     alone: bool = False
+    big: bool = False
 
 
 @dataclass(frozen=True)

@@ -3,7 +3,8 @@
     python3 oracle/compare_replay.py --replay target/bin/replay [--topic images] [--seed 1]
 
 Ends with status 0 where every answer is as the model says. Otherwise it reduces the
-first case that differs, prints the script that shows it, and ends with status 1.
+first case that differs, prints the script that shows it, and ends with status 1; of a
+big case it prints the line that differs only.
 """
 
 from __future__ import annotations
@@ -19,13 +20,19 @@ from typing import Iterator, Optional
 
 sys.path.insert(0, str(Path(__file__).resolve().parent.parent))
 
-from oracle import suite_images, suite_samples, suite_script, suite_share  # noqa: E402
+from oracle import suite_images, suite_queues, suite_samples, suite_script, suite_share  # noqa: E402
 from oracle.cases import Case, Suite  # noqa: E402
 from oracle.script import Replay, expected  # noqa: E402
 
 SUITES: dict[str, Suite] = {
     suite.topic: suite
-    for suite in (suite_samples.SUITE, suite_script.SUITE, suite_share.SUITE, suite_images.SUITE)
+    for suite in (
+        suite_samples.SUITE,
+        suite_script.SUITE,
+        suite_share.SUITE,
+        suite_images.SUITE,
+        suite_queues.SUITE,
+    )
 }
 
 #: A batch is run in one process. It has at most so many cases and bytes of script.
@@ -108,7 +115,7 @@ def batches(cases: list[Case]) -> Iterator[list[int]]:
     group: list[int] = []
     size = 0
     for number, case in enumerate(cases):
-        if case.alone:
+        if case.alone or case.big:
             yield [number]
             continue
         full = len(group) == BATCH_CASES or size + len(case.script) > BATCH_BYTES
@@ -182,11 +189,27 @@ def shown(line: Optional[bytes]) -> str:
     return text if ended else f"{text} (no line end)"
 
 
+def print_case(suite: Suite, seed: int, number: int, count: int) -> None:
+    """Prints which case differs."""
+    print(f"{suite.topic}: not as the oracle says: seed {seed}, case {number + 1} of {count}")
+
+
+def print_difference(found: Difference) -> None:
+    """Prints the line that differs, and how the program ended."""
+    print(f"Line {found.line + 1} of the output:")
+    print(f"    expected: {shown(found.expected)}")
+    print(f"    actual:   {shown(found.actual)}")
+    if found.outcome.trouble:
+        print(f"The program {found.outcome.trouble}.")
+    if found.outcome.stderr:
+        print(f"It wrote to standard error: {shown(found.outcome.stderr[:SHOWN])}")
+
+
 def report(
     program: Program, suite: Suite, seed: int, number: int, count: int, script: Optional[bytes], batch: bytes
 ) -> None:
     """Prints a difference and how to see it again."""
-    print(f"{suite.topic}: not as the oracle says: seed {seed}, case {number + 1} of {count}")
+    print_case(suite, seed, number, count)
     folder = Path(tempfile.mkdtemp(prefix="replay-difference-"))
     path = folder / f"{suite.topic}-{seed}-{number + 1}.script"
     if script is None:
@@ -204,13 +227,7 @@ def report(
     if found is None:
         print("It did not show again in the last run.")
         return
-    print(f"Line {found.line + 1} of the output:")
-    print(f"    expected: {shown(found.expected)}")
-    print(f"    actual:   {shown(found.actual)}")
-    if found.outcome.trouble:
-        print(f"The program {found.outcome.trouble}.")
-    if found.outcome.stderr:
-        print(f"It wrote to standard error: {shown(found.outcome.stderr[:SHOWN])}")
+    print_difference(found)
     print(f"Run it again: {program.path} < {path}")
 
 
@@ -224,6 +241,10 @@ def compare(program: Program, suite: Suite, seed: int) -> bool:
         printed = [model.feed(script) for script in scripts]
         batch = b"".join(scripts)
         found = program.difference(batch, b"".join(printed), BATCH_SECONDS)
+        if found is not None and cases[group[0]].big:
+            print_case(suite, seed, group[0], len(cases))
+            print_difference(found)
+            return False
         if found is not None:
             index, script = reduced(program, scripts, differing_case(printed, found.line))
             report(program, suite, seed, group[index], len(cases), script, batch)

@@ -5,13 +5,18 @@ from __future__ import annotations
 
 import re
 from dataclasses import dataclass
+from functools import lru_cache
 from typing import Any, Callable, Optional
 
+from oracle.queues import LETTERS, Queue, Refusal
 from oracle.tables import TablesInHand
 
 _BLANKS = re.compile(rb"[ \t\r]+")
 _DIGITS = re.compile(rb"[0-9]+")
 _HEX = re.compile(rb"(?:[0-9a-fA-F]{2})*")
+
+#: The most memory that a script can give to a queue, in bytes.
+MOST_MEMORY = 2_097_152
 
 
 class Mistake(Exception):
@@ -23,6 +28,7 @@ class World:
 
     def __init__(self) -> None:
         self.tables = TablesInHand()
+        self.queue = Queue("ring", 0)
 
 
 # Operands.
@@ -50,6 +56,20 @@ def byte(word: bytes) -> int:
     value = _value(word)
     if value is None or value > 255:
         raise Mistake("not a byte")
+    return value
+
+
+def kind(word: bytes) -> str:
+    name = word.decode("latin-1")
+    if name not in LETTERS:
+        raise Mistake("no such kind")
+    return name
+
+
+def memory(word: bytes) -> int:
+    value = number(word)
+    if value > MOST_MEMORY:
+        raise Mistake("too much memory")
     return value
 
 
@@ -95,6 +115,35 @@ def _label(world: World, state: int) -> str:
     return f"label {state} -> {_or_none(world.tables.table.label(state))}"
 
 
+def _queue(world: World, name: str, length: int) -> str:
+    world.queue = Queue(name, length)
+    return f"queue {name} {length} -> ok"
+
+
+def _count(world: World) -> str:
+    return f"count -> {world.queue.count}"
+
+
+def _limit(world: World) -> str:
+    return f"limit -> {world.queue.limit}"
+
+
+def _element(world: World, place: int) -> str:
+    return f"element {place} -> {_or_none(world.queue.element(place))}"
+
+
+def _ok_or_refused(refusal: Optional[Refusal]) -> str:
+    return "ok" if refusal is None else f"refused: {refusal}"
+
+
+def _put(world: World, value: int) -> str:
+    return f"put {value} -> {_ok_or_refused(world.queue.put(value))}"
+
+
+def _drop(world: World, count: int) -> str:
+    return f"drop {count} -> {_ok_or_refused(world.queue.drop(count))}"
+
+
 @dataclass(frozen=True)
 class Command:
     """What a command's operands are, and the call that it makes.
@@ -107,7 +156,8 @@ class Command:
     operands: tuple[Callable[[bytes], Any], ...] = ()
     rest: Optional[Callable[[list[bytes]], Any]] = None
 
-    def run(self, world: World, words: list[bytes]) -> str:
+    def values(self, words: list[bytes]) -> list[Any]:
+        """What the call is given for these words."""
         fixed = len(self.operands)
         if len(words) < fixed:
             raise Mistake("too few words")
@@ -116,7 +166,7 @@ class Command:
         values = [read(word) for read, word in zip(self.operands, words)]
         if self.rest is not None:
             values.append(self.rest(words[fixed:]))
-        return self.call(world, *values)
+        return values
 
 
 COMMANDS: dict[bytes, Command] = {
@@ -126,10 +176,29 @@ COMMANDS: dict[bytes, Command] = {
     b"states": Command(_states),
     b"next": Command(_next, (number, byte)),
     b"label": Command(_label, (number,)),
+    b"queue": Command(_queue, (kind, memory)),
+    b"count": Command(_count),
+    b"limit": Command(_limit),
+    b"element": Command(_element, (number,)),
+    b"put": Command(_put, (byte,)),
+    b"drop": Command(_drop, (number,)),
 }
 
 
 # Scripts.
+
+
+@lru_cache(maxsize=512)
+def _read(line: bytes) -> Optional[tuple[Callable[..., str], list[Any]]]:
+    """The call that a line makes and what it is given, or None where it is passed over.
+    Lines that come again and again are read once."""
+    words = [word for word in _BLANKS.split(line) if word]
+    if not words or words[0].startswith(b"#"):
+        return None
+    command = COMMANDS.get(words[0])
+    if command is None:
+        raise Mistake("no such command")
+    return command.call, command.values(words[1:])
 
 
 class Replay:
@@ -148,14 +217,12 @@ class Replay:
 
     def _answer(self, line: bytes) -> bytes:
         self.line += 1
-        words = [word for word in _BLANKS.split(line) if word]
-        if not words or words[0].startswith(b"#"):
-            return b""
         try:
-            command = COMMANDS.get(words[0])
-            if command is None:
-                raise Mistake("no such command")
-            text = command.run(self.world, words[1:])
+            read = _read(line)
+            if read is None:
+                return b""
+            call, values = read
+            text = call(self.world, *values)
         except Mistake as mistake:
             text = f"line {self.line}: {mistake}"
         return text.encode("ascii") + b"\n"

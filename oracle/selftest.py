@@ -1,4 +1,4 @@
-"""Tests of the model itself, on tables, images and scripts made by hand."""
+"""Tests of the model itself, on tables, images, queues and scripts made by hand."""
 
 from __future__ import annotations
 
@@ -15,6 +15,7 @@ sys.path.insert(0, str(Path(__file__).resolve().parent.parent))
 from oracle import compare_replay  # noqa: E402
 from oracle.cases import Case, Suite  # noqa: E402
 from oracle.generate import any_table, cut_lengths, load_line, random_table, with_byte, with_count  # noqa: E402
+from oracle.queues import LETTERS, Queue, Refusal  # noqa: E402
 from oracle.script import COMMANDS, Replay, expected  # noqa: E402
 from oracle.tables import (  # noqa: E402
     FAULT_LAYERS,
@@ -161,6 +162,75 @@ class Share(unittest.TestCase):
         self.assertEqual(parse_image(write_image(share_table())), share_table())
 
 
+class Queues(unittest.TestCase):
+    def has(self, queue: Queue, *elements: int) -> None:
+        """The queue has these elements and no more."""
+        count = len(elements)
+        self.assertEqual(queue.count, count)
+        self.assertEqual([queue.element(place) for place in range(count + 2)], [*elements, None, None])
+        self.assertIsNone(queue.element(2**64 - 1))
+
+    def test_a_ring_of_four(self) -> None:
+        queue = Queue("ring", 4)
+        self.assertEqual(queue.limit, 4)
+        self.has(queue)
+        for byte in (1, 2, 3, 4):
+            self.assertIsNone(queue.put(byte))
+        self.assertEqual(queue.put(5), Refusal(8, "R"))
+        self.has(queue, 1, 2, 3, 4)
+        self.assertIsNone(queue.drop(2))
+        self.has(queue, 3, 4)
+        for byte in (5, 6):
+            self.assertIsNone(queue.put(byte))
+        self.assertEqual(queue.put(7), Refusal(8, "R"))
+        self.has(queue, 3, 4, 5, 6)
+        for byte in range(7, 20):
+            self.assertIsNone(queue.drop(1))
+            self.assertIsNone(queue.put(byte))
+            self.has(queue, byte - 3, byte - 2, byte - 1, byte)
+        self.assertIsNone(queue.drop(4))
+        self.has(queue)
+
+    def test_letters(self) -> None:
+        self.assertEqual(LETTERS, {"ring": "R", "straight": "S"})
+        for kind, letter in LETTERS.items():
+            queue = Queue(kind, 1)
+            self.assertIsNone(queue.put(255))
+            self.assertEqual(queue.put(0), Refusal(8, letter))
+            self.assertEqual(str(queue.put(0)), f"queue full (number 8, letter {letter})")
+            self.has(queue, 255)
+
+    def test_drop_beyond(self) -> None:
+        for kind in LETTERS:
+            queue = Queue(kind, 4)
+            self.assertIsNone(queue.drop(0))
+            for byte in (7, 8, 9):
+                queue.put(byte)
+            for count in (4, 5, 2**32, 2**64 - 1):
+                self.assertEqual(queue.drop(count), Refusal(9))
+                self.assertEqual(str(queue.drop(count)), "drop beyond the count (number 9)")
+                self.has(queue, 7, 8, 9)
+            self.assertIsNone(queue.drop(0))
+            self.has(queue, 7, 8, 9)
+            self.assertIsNone(queue.drop(3))
+            self.has(queue)
+            self.assertEqual(queue.drop(1), Refusal(9))
+
+    def test_no_memory(self) -> None:
+        for kind, letter in LETTERS.items():
+            queue = Queue(kind, 0)
+            self.assertEqual(queue.limit, 0)
+            self.assertEqual(queue.put(1), Refusal(8, letter))
+            self.assertEqual(queue.drop(1), Refusal(9))
+            self.assertIsNone(queue.drop(0))
+            self.has(queue)
+
+    def test_limits(self) -> None:
+        for length, limit in ((1_048_575, 1_048_575), (1_048_576, 1_048_576), (1_048_577, 1_048_576)):
+            self.assertEqual(Queue("ring", length).limit, limit)
+        self.assertEqual(Queue("straight", 2_097_152).limit, 1_048_576)
+
+
 class Scripts(unittest.TestCase):
     def prints(self, script: bytes, *lines: str) -> None:
         self.assertEqual(expected(script), "".join(line + "\n" for line in lines).encode("ascii"))
@@ -171,6 +241,75 @@ class Scripts(unittest.TestCase):
         self.prints(b"share\nnext 0 97\nnext 11 97\n", "share -> ok", "next 0 97 -> 4", "next 11 97 -> none")
         self.prints(b"label 0\nlabel 1", "label 0 -> 0", "label 1 -> none")
         self.prints(load_line(TWO) + b"\nlabel 1\n", "load 268 bytes -> ok", "label 1 -> 7")
+
+    def test_each_command_of_a_queue(self) -> None:
+        self.prints(
+            b"queue ring 02\nlimit\ncount\nput 007\nput 8\nput 9\nelement 01\nelement 2\n",
+            "queue ring 2 -> ok",
+            "limit -> 2",
+            "count -> 0",
+            "put 7 -> ok",
+            "put 8 -> ok",
+            "put 9 -> refused: queue full (number 8, letter R)",
+            "element 1 -> 8",
+            "element 2 -> none",
+        )
+        self.prints(
+            b"queue straight 1\nput 7\nput 8\ndrop 2\ncount\ndrop 01\ncount\n",
+            "queue straight 1 -> ok",
+            "put 7 -> ok",
+            "put 8 -> refused: queue full (number 8, letter S)",
+            "drop 2 -> refused: drop beyond the count (number 9)",
+            "count -> 1",
+            "drop 1 -> ok",
+            "count -> 0",
+        )
+
+    def test_the_queue_at_first(self) -> None:
+        self.prints(
+            b"limit\ncount\nelement 0\ndrop 0\ndrop 1\nput 0",
+            "limit -> 0",
+            "count -> 0",
+            "element 0 -> none",
+            "drop 0 -> ok",
+            "drop 1 -> refused: drop beyond the count (number 9)",
+            "put 0 -> refused: queue full (number 8, letter R)",
+        )
+
+    def test_a_new_queue_takes_the_place_of_the_old_one(self) -> None:
+        script = b"queue ring 2\nput 7\nqueue ring 2\ncount\nelement 0\nqueue straight 0\nput 7\n"
+        self.prints(
+            script,
+            "queue ring 2 -> ok",
+            "put 7 -> ok",
+            "queue ring 2 -> ok",
+            "count -> 0",
+            "element 0 -> none",
+            "queue straight 0 -> ok",
+            "put 7 -> refused: queue full (number 8, letter S)",
+        )
+
+    def test_a_mistake_leaves_the_queue_as_it_was(self) -> None:
+        lines = {
+            b"queue square 4": "no such kind", b"queue Ring 4": "no such kind", b"queue 4 ring": "no such kind",
+            b"queue square x": "no such kind", b"queue square 2097153": "no such kind",
+            b"queue r\xffng 4": "no such kind", b"queue ring x": "not a number", b"queue ring -1": "not a number",
+            b"queue ring 18446744073709551616": "not a number", b"queue ring 2097153": "too much memory",
+            b"queue straight 18446744073709551615": "too much memory", b"queue": "too few words",
+            b"queue square": "too few words", b"queue square x 1": "too many words", b"put 256": "not a byte",
+            b"put -1": "not a byte", b"put": "too few words", b"put 1 2": "too many words", b"drop -1": "not a number",
+            b"drop 18446744073709551616": "not a number", b"element x": "not a number", b"element": "too few words",
+            b"count 1": "too many words", b"limit #": "too many words", b"Put 1": "no such command",
+        }  # fmt: skip
+        for line, mistake in lines.items():
+            script = b"queue straight 1\nput 7\n" + line + b"\nelement 0\nput 8\n"
+            answers = ["queue straight 1 -> ok", "put 7 -> ok", f"line 3: {mistake}", "element 0 -> 7"]
+            self.prints(script, *answers, "put 8 -> refused: queue full (number 8, letter S)")
+
+    def test_the_most_memory(self) -> None:
+        for kind in (b"ring", b"straight"):
+            script = b"queue " + kind + b" 02097152\nlimit\n"
+            self.prints(script, f"queue {kind.decode()} 2097152 -> ok", "limit -> 1048576")
 
     def test_a_refused_load_changes_nothing(self) -> None:
         refused = (
@@ -212,7 +351,8 @@ class Scripts(unittest.TestCase):
         self.prints(b"next 1 256", "line 1: not a byte")
 
     def test_the_number_of_words(self) -> None:
-        self.assertEqual(set(COMMANDS), {b"share", b"load", b"table", b"states", b"next", b"label"})
+        tables = {b"share", b"load", b"table", b"states", b"next", b"label"}
+        self.assertEqual(set(COMMANDS) - tables, {b"queue", b"count", b"limit", b"element", b"put", b"drop"})
         for line in (b"next", b"next 1", b"next x", b"label"):
             self.prints(line, "line 1: too few words")
         for line in (b"share x", b"table 1", b"states #", b"next x y z", b"label x y"):
@@ -249,7 +389,7 @@ STAND_IN = """#!{python}
 import sys
 sys.dont_write_bytecode = True
 sys.path.insert(0, {root!r})
-from oracle import script, tables
+from oracle import queues, script, tables
 {change}
 sys.stdout.buffer.write(script.expected(sys.stdin.buffer.read()))
 """
@@ -273,18 +413,45 @@ def moved(image):
 tables.parse_image = moved
 """
 
+WRONG_LETTER = """
+queues.LETTERS["straight"] = "R"
+"""
+
+FULL_TOO_EARLY = """
+put = queues.Queue.put
+def early(self, byte):
+    if self.count + 1 == self.limit > 1:
+        return queues.Refusal(8, self.letter)
+    return put(self, byte)
+queues.Queue.put = early
+"""
+
 ENDS_BADLY = """
 if b"label 9" in sys.stdin.buffer.peek():
     sys.exit(3)
 """
 
 
+BAD_LOAD = load_line(EMPTY[:-1] + b"\1")
+
+#: What the stand-ins are compared on.
+LOADS = [
+    Case(b"table\n"),
+    Case(b"share\nlabel 9\n"),
+    Case(b"share\nstates\n" + BAD_LOAD + b"\nstates\nlabel 4\n"),
+    Case(b"foo\n"),
+]
+QUEUES = [
+    Case(b"queue ring 1\nput 7\nput 8\ncount\n"),
+    Case(b"queue straight 1\nlimit\nput 7\nput 8\ndrop 2\ndrop 1\n"),
+    Case(b"queue ring 3\nput 1\nput 2\nelement 0\nput 3\nelement 2\n"),
+]
+
+
 class Driver(unittest.TestCase):
-    def compare(self, change: str) -> tuple[bool, str, bytes]:
+    def compare(self, change: str, cases: list[Case] = LOADS) -> tuple[bool, str, bytes]:
         """Whether a changed stand-in passes, what is printed, and the reduced script."""
-        bad = load_line(EMPTY[:-1] + b"\1")
-        scripts = (b"table\n", b"share\nlabel 9\n", b"share\nstates\n" + bad + b"\nstates\nlabel 4\n", b"foo\n")
-        suite = Suite("made", "scripts", lambda _: [Case(script) for script in scripts])
+        suite = Suite("made", "scripts", lambda _: cases)
         printed = io.StringIO()
         with tempfile.TemporaryDirectory() as name, contextlib.redirect_stdout(printed):
             path = Path(name) / "replay"
@@ -303,6 +470,9 @@ class Driver(unittest.TestCase):
         passed, printed, _ = self.compare("")
         self.assertTrue(passed)
         self.assertEqual(printed, "made: 4 scripts, 9 answers, all as the oracle says\n")
+        passed, printed, _ = self.compare("", QUEUES)
+        self.assertTrue(passed)
+        self.assertEqual(printed, "made: 3 scripts, 16 answers, all as the oracle says\n")
 
     def test_a_refused_load_that_switches_the_table(self) -> None:
         passed, printed, script = self.compare(REFUSED_LOAD_SWITCHES)
@@ -315,7 +485,33 @@ class Driver(unittest.TestCase):
         passed, printed, script = self.compare(PLACE_OFF_BY_ONE)
         self.assertFalse(passed)
         self.assertIn("number 5, place 264)\n", printed)
-        self.assertEqual(script, load_line(EMPTY[:-1] + b"\1") + b"\n")
+        self.assertEqual(script, BAD_LOAD + b"\n")
+
+    def test_a_wrong_letter(self) -> None:
+        passed, printed, script = self.compare(WRONG_LETTER, QUEUES)
+        self.assertFalse(passed)
+        self.assertIn("made: not as the oracle says: seed 1, case 2 of 3\n", printed)
+        self.assertIn("(number 8, letter S)\n", printed)
+        self.assertIn("(number 8, letter R)\n", printed)
+        self.assertEqual(script, b"queue straight 1\nput 7\nput 8\n")
+
+    def test_full_too_early(self) -> None:
+        passed, printed, script = self.compare(FULL_TOO_EARLY, QUEUES)
+        self.assertFalse(passed)
+        self.assertIn("made: not as the oracle says: seed 1, case 3 of 3\n", printed)
+        self.assertIn("expected: put 3 -> ok\n    actual:   put 3 -> refused: queue full", printed)
+        self.assertEqual(script, b"queue ring 3\nput 1\nput 2\nput 3\n")
+
+    def test_a_big_case_is_not_reduced(self) -> None:
+        big = [*QUEUES[:2], Case(QUEUES[2].script, big=True)]
+        passed, printed, script = self.compare(FULL_TOO_EARLY, big)
+        self.assertFalse(passed)
+        self.assertEqual(
+            printed,
+            "made: not as the oracle says: seed 1, case 3 of 3\nLine 5 of the output:\n"
+            "    expected: put 3 -> ok\n    actual:   put 3 -> refused: queue full (number 8, letter R)\n",
+        )
+        self.assertEqual(script, b"")
 
     def test_a_program_that_ends_badly(self) -> None:
         passed, printed, script = self.compare(ENDS_BADLY)

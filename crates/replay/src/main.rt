@@ -1,5 +1,5 @@
 // Plays a script from standard input, and prints what comes of it.
-use script::replay::replay;
+use session::replay::replay;
 use std::error::AnyError;
 use std::io::Read;
 

@@ -1,8 +1,6 @@
 pub mod Cutting
 pub mod Ending
 pub mod Pairing
-pub mod Playing
-pub mod Printed
 pub mod Saying
 pub mod Spelled
 pub mod Standing

@@ -1,13 +1,11 @@
-pub mod Answers
 pub mod Commands
 pub mod Hex
+pub mod Kinds
 pub mod Lines
 pub mod Names
 pub mod Numbers
 pub mod Operands
 pub mod Reading
-pub mod Replays
-pub mod Sessions
 pub mod Spelling
 pub mod Texts
 pub mod Words

@@ -1,12 +1,17 @@
 -- What the words behind a command's name write.
 use Prim.Native.Nat.{ℕ}
+use lib.Dec.{ltb}
+use mathlib.Core.Bool.{cond}
 use mathlib.Core.List.{List, [], _∷_}
 use Rattle.std.specs.Options.{okOr}
 use Rattle.std.specs.declared.result.Result.{Result}
 use Rattle.std.specs.declared.result.Result.the-variants.{Ok, Err}
 use Rattle.script.specs.declared.mistake.Mistake.{Mistake}
-use Rattle.script.specs.declared.mistake.Mistake.the-variants.{TooFewWords, TooManyWords, NotANumber, NotAByte, NotHexadecimal}
+use Rattle.script.specs.declared.mistake.Mistake.the-variants.{TooFewWords, TooManyWords, NotANumber, NotAByte, NoSuchKind, TooMuchMemory, NotHexadecimal}
+use Rattle.script.specs.declared.request.Making.{Making}
+use Rattle.script.specs.declared.request.QueueKind.{QueueKind}
 use Rattle.script.specs.Hex.{hexBytes}
+use Rattle.script.specs.Kinds.{kindOf}
 use Rattle.script.specs.Numbers.{numberOf, byteOf}
 use Rattle.script.specs.Reading.{andThen}
 use Rattle.script.specs.Words.{joined}
@@ -36,6 +41,16 @@ byte w = okOr (byteOf w) NotAByte
 
 abbrev pub oneNumber : List (List ℕ) → Result ℕ Mistake
 oneNumber ws = andThen (oneWord ws) number
+
+abbrev pub oneByte : List (List ℕ) → Result ℕ Mistake
+oneByte ws = andThen (oneWord ws) byte
+
+-- At most 2,097,152 bytes of memory.
+abbrev pub making : QueueKind → ℕ → Result Making Mistake
+making k n = cond (ltb 2097152 n) (Err TooMuchMemory) (Ok (record { kind = k; length = n }))
+
+abbrev pub kindAndLength : List (List ℕ) → Result Making Mistake
+kindAndLength ws = andThen (twoWords ws) (λ p. andThen (okOr (kindOf (p .0)) NoSuchKind) (λ k. andThen (number (p .1)) (making k)))
 
 abbrev pub numberAndByte : List (List ℕ) → Result (ℕ × ℕ) Mistake
 numberAndByte ws = andThen (twoWords ws) (λ p. andThen (number (p .0)) (λ n. andThen (byte (p .1)) (λ b. Ok (n, b))))

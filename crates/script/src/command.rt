@@ -1,5 +1,5 @@
 // The commands of a script, and how a line says one.
-ghost use Rattle.script.specs.Commands.{callOf, comment, mayCallOf, says, takes};
+ghost use Rattle.script.specs.Commands.{asks, callOf, comment, mayCallOf, requests, says, takes};
 ghost use Rattle.script.specs.Reading.{Reads};
 ghost use Rattle.script.specs.Words.{words};
 ghost use Rattle.std.specs.declared.result.Result.the-variants.{Ok, Err};
@@ -8,11 +8,17 @@ use crate::mistake::Mistake;
 use crate::mistake::Unread;
 use crate::mistake::UnreadFromAllocError;
 use crate::mistake::UnreadFromMistake;
+use crate::name::Asked;
 use crate::name::Name;
+use crate::name::Requested;
 use crate::operands::hex_bytes;
+use crate::operands::kind_and_length;
 use crate::operands::no_operand;
 use crate::operands::number_and_byte;
+use crate::operands::one_byte;
 use crate::operands::one_number;
+use crate::request::Making;
+use crate::request::Request;
 use crate::words::first_word;
 use std::alloc::Global;
 
@@ -35,6 +41,10 @@ pub enum Command {
     Table,
     // Ask the table in hand.
     Ask(Question),
+    // Make a queue, and take it in hand.
+    Make(Making),
+    // Ask the queue in hand.
+    Queue(Request),
 }
 
 // Whether a line with this first word is a comment: it begins with #.
@@ -44,6 +54,58 @@ fn is_comment(word: &[u8]) -> bool
     match word {
         [first, ..] => *first == b'#',
         [] => false,
+    }
+}
+
+impl Question {
+    // The question of a name, with the operands that the words of `rest` write.
+    fn with_operands(asked: Asked, rest: &[u8]) -> Result<Question, Mistake>
+        ensures { λ r. ⌜ r ≡ asks asked (words (now (rest .entry))) ⌝ }
+    {
+        match asked {
+            Asked::States => {
+                no_operand(rest)?;
+                Ok(Question::States)
+            }
+            Asked::Next => {
+                let (state, byte) = number_and_byte(rest)?;
+                Ok(Question::Next { state, byte })
+            }
+            Asked::Label => {
+                let state = one_number(rest)?;
+                Ok(Question::Label { state })
+            }
+        }
+    }
+}
+
+impl Request {
+    // The request of a name, with the operands that the words of `rest` write.
+    fn with_operands(requested: Requested, rest: &[u8]) -> Result<Request, Mistake>
+        ensures { λ r. ⌜ r ≡ requests requested (words (now (rest .entry))) ⌝ }
+    {
+        match requested {
+            Requested::Count => {
+                no_operand(rest)?;
+                Ok(Request::Count)
+            }
+            Requested::Limit => {
+                no_operand(rest)?;
+                Ok(Request::Limit)
+            }
+            Requested::Element => {
+                let place = one_number(rest)?;
+                Ok(Request::Element { place })
+            }
+            Requested::Put => {
+                let byte = one_byte(rest)?;
+                Ok(Request::Put { byte })
+            }
+            Requested::Drop => {
+                let count = one_number(rest)?;
+                Ok(Request::Drop { count })
+            }
+        }
     }
 }
 
@@ -62,18 +124,9 @@ impl Command {
                 no_operand(rest)?;
                 Ok(Command::Table)
             }
-            Name::States => {
-                no_operand(rest)?;
-                Ok(Command::Ask(Question::States))
-            }
-            Name::Next => {
-                let (state, byte) = number_and_byte(rest)?;
-                Ok(Command::Ask(Question::Next { state, byte }))
-            }
-            Name::Label => {
-                let state = one_number(rest)?;
-                Ok(Command::Ask(Question::Label { state }))
-            }
+            Name::Ask(asked) => Ok(Command::Ask(Question::with_operands(asked, rest)?)),
+            Name::Make => Ok(Command::Make(kind_and_length(rest)?)),
+            Name::Queue(requested) => Ok(Command::Queue(Request::with_operands(requested, rest)?)),
         }
     }
 

@@ -1,14 +1,12 @@
-// The script language: how a line is read, and what each command does.
-pub mod answer;
+// The script language: how a script is cut into lines, and what a line says.
 pub mod command;
 mod hex;
 pub mod laws;
-mod lines;
+pub mod lines;
 pub mod mistake;
 mod name;
 mod number;
 mod operands;
-pub mod replay;
-pub mod session;
+pub mod request;
 pub mod text;
 mod words;

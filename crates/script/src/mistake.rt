@@ -11,6 +11,8 @@ pub enum Mistake {
     TooManyWords,
     NotANumber,
     NotAByte,
+    NoSuchKind,
+    TooMuchMemory,
     NotHexadecimal,
 }
 

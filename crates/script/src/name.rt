@@ -2,25 +2,49 @@
 ghost use Rattle.script.specs.Names.{nameOf, spelled};
 ghost use mathlib.Core.Path.{_≡_};
 
+// The name of a question to a table.
+#[derive(Clone, Copy, PartialEq, Eq, Debug)]
+pub enum Asked {
+    States,
+    Next,
+    Label,
+}
+
+// The name of a request to a queue.
+#[derive(Clone, Copy, PartialEq, Eq, Debug)]
+pub enum Requested {
+    Count,
+    Limit,
+    Element,
+    Put,
+    Drop,
+}
+
 // The name of a command: the first word of its line.
 #[derive(Clone, Copy, PartialEq, Eq, Debug)]
 pub enum Name {
     Share,
     Load,
     Table,
-    States,
-    Next,
-    Label,
+    Ask(Asked),
+    Make,
+    Queue(Requested),
 }
 
 // All names.
-static NAMES: [Name; 6] = [
+static NAMES: [Name; 12] = [
     Name::Share,
     Name::Load,
     Name::Table,
-    Name::States,
-    Name::Next,
-    Name::Label,
+    Name::Ask(Asked::States),
+    Name::Ask(Asked::Next),
+    Name::Ask(Asked::Label),
+    Name::Make,
+    Name::Queue(Requested::Count),
+    Name::Queue(Requested::Limit),
+    Name::Queue(Requested::Element),
+    Name::Queue(Requested::Put),
+    Name::Queue(Requested::Drop),
 ];
 
 impl Name {
@@ -32,9 +56,15 @@ impl Name {
             Name::Share => "share",
             Name::Load => "load",
             Name::Table => "table",
-            Name::States => "states",
-            Name::Next => "next",
-            Name::Label => "label",
+            Name::Ask(Asked::States) => "states",
+            Name::Ask(Asked::Next) => "next",
+            Name::Ask(Asked::Label) => "label",
+            Name::Make => "queue",
+            Name::Queue(Requested::Count) => "count",
+            Name::Queue(Requested::Limit) => "limit",
+            Name::Queue(Requested::Element) => "element",
+            Name::Queue(Requested::Put) => "put",
+            Name::Queue(Requested::Drop) => "drop",
         }
     }
 

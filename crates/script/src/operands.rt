@@ -1,5 +1,5 @@
 // The operands of commands: the words behind a name.
-ghost use Rattle.script.specs.Operands.{hexOperand, noOperand, numberAndByte, oneNumber, oneWord, twoWords};
+ghost use Rattle.script.specs.Operands.{hexOperand, kindAndLength, noOperand, numberAndByte, oneByte, oneNumber, oneWord, twoWords};
 ghost use Rattle.script.specs.Reading.{Reads};
 ghost use Rattle.script.specs.Words.{words};
 ghost use Rattle.std.specs.Of.Vec.{vec-items};
@@ -12,8 +12,13 @@ use crate::mistake::Unread;
 use crate::mistake::UnreadFromAllocError;
 use crate::mistake::UnreadFromMistake;
 use crate::number;
+use crate::request::Making;
+use crate::request::QueueKind;
 use crate::words::first_word;
 use std::alloc::Global;
+
+// The most bytes of memory that a script may ask for.
+const MOST_MEMORY: usize = 2_097_152;
 
 // No operand: no word is left.
 pub fn no_operand(rest: &[u8]) -> Result<(), Mistake>
@@ -52,6 +57,26 @@ pub fn one_number(rest: &[u8]) -> Result<usize, Mistake>
     ensures { λ r. ⌜ r ≡ oneNumber (words (now (rest .entry))) ⌝ }
 {
     number::number(one_word(rest)?).ok_or(Mistake::NotANumber)
+}
+
+// One operand, a byte.
+pub fn one_byte(rest: &[u8]) -> Result<u8, Mistake>
+    ensures { λ r. ⌜ r ≡ oneByte (words (now (rest .entry))) ⌝ }
+{
+    number::byte(one_word(rest)?).ok_or(Mistake::NotAByte)
+}
+
+// Two operands, a kind of queue and how many bytes of memory it is to stand over.
+pub fn kind_and_length(rest: &[u8]) -> Result<Making, Mistake>
+    ensures { λ r. ⌜ r ≡ kindAndLength (words (now (rest .entry))) ⌝ }
+{
+    let (first, second) = two_words(rest)?;
+    let kind = QueueKind::of(first).ok_or(Mistake::NoSuchKind)?;
+    let length = number::number(second).ok_or(Mistake::NotANumber)?;
+    if length > MOST_MEMORY {
+        return Err(Mistake::TooMuchMemory);
+    }
+    Ok(Making { kind, length })
 }
 
 // Two operands, a number and a byte.

@@ -1,13 +1,11 @@
-// What is printed: the text of a call, of its answer, and of a mistake.
-ghost use Rattle.script.specs.Texts.{answerText, callText, faultText, handText, mistakeText, questionText};
+// What is printed of a line: the text of its call, or of its mistake.
+ghost use Rattle.script.specs.Texts.{callText, mistakeText, questionText, requestText};
 ghost use Rattle.std.specs.declared.option.Option.the-variants.{Some};
 ghost use mathlib.Core.Path.{_≡_};
-use crate::answer::Answer;
-use crate::answer::Hand;
 use crate::command::Command;
 use crate::command::Question;
 use crate::mistake::Mistake;
-use images::faults::LoadFault;
+use crate::request::Request;
 use std::fmt;
 
 pub impl fmt::Display for Mistake as MistakeDisplay {
@@ -20,6 +18,8 @@ pub impl fmt::Display for Mistake as MistakeDisplay {
             Mistake::TooManyWords => write!(f, "too many words"),
             Mistake::NotANumber => write!(f, "not a number"),
             Mistake::NotAByte => write!(f, "not a byte"),
+            Mistake::NoSuchKind => write!(f, "no such kind"),
+            Mistake::TooMuchMemory => write!(f, "too much memory"),
             Mistake::NotHexadecimal => write!(f, "not hexadecimal"),
         }
     }
@@ -37,6 +37,20 @@ pub impl fmt::Display for Question as QuestionDisplay {
     }
 }
 
+pub impl fmt::Display for Request as RequestDisplay {
+    ghost shown = { λ request. Some (requestText request) };
+
+    fn fmt<W: fmt::Write>(&self, f: &mut fmt::Formatter<W>) -> fmt::Result {
+        match *self {
+            Request::Count => write!(f, "count"),
+            Request::Limit => write!(f, "limit"),
+            Request::Element { place } => write!(f, "element {place}"),
+            Request::Put { byte } => write!(f, "put {byte}"),
+            Request::Drop { count } => write!(f, "drop {count}"),
+        }
+    }
+}
+
 pub impl fmt::Display for Command as CommandDisplay {
     ghost shown = { λ command. Some (callText command) };
 
@@ -49,56 +63,12 @@ pub impl fmt::Display for Command as CommandDisplay {
             }
             Command::Table => write!(f, "table"),
             Command::Ask(question) => write!(f, "{question}"),
-        }
-    }
-}
-
-pub impl fmt::Display for Hand as HandDisplay {
-    ghost shown = { λ hand. Some (handText hand) };
-
-    fn fmt<W: fmt::Write>(&self, f: &mut fmt::Formatter<W>) -> fmt::Result {
-        match self {
-            Hand::Share => write!(f, "share table"),
-            Hand::Loaded => write!(f, "loaded table"),
-        }
-    }
-}
-
-// What is wrong with an image, in words.
-fn fault_words(fault: LoadFault) -> &'static str
-    ensures { λ r. ⌜ now r ≡ faultText fault ⌝ }
-{
-    match fault {
-        LoadFault::Read(_) => "image ends early",
-        LoadFault::Classes { .. } => "first count not 256, or class above 63",
-        LoadFault::States { .. } => "number of states 0 or above 128",
-        LoadFault::StepCount { .. } => "third count not states times classes",
-        LoadFault::NextState { .. } => "next state not below the number of states",
-        LoadFault::LeftOver { .. } => "bytes left over",
-    }
-}
-
-pub impl fmt::Display for Answer as AnswerDisplay {
-    ghost shown = { λ answer. Some (answerText answer) };
-
-    fn fmt<W: fmt::Write>(&self, f: &mut fmt::Formatter<W>) -> fmt::Result {
-        match *self {
-            Answer::Done => write!(f, "ok"),
-            Answer::Refused(fault) => {
-                let words = fault_words(fault);
-                let layer = fault.layer().letter();
-                let number = fault.number();
-                let place = fault.place();
-                write!(
-                    f,
-                    "refused: {words} (layer {layer}, number {number}, place {place})"
-                )
+            Command::Make(making) => {
+                let kind = making.kind.spelling();
+                let length = making.length;
+                write!(f, "queue {kind} {length}")
             }
-            Answer::InHand { hand, states } => write!(f, "{hand}, states {states}"),
-            Answer::States(states) => write!(f, "{states}"),
-            Answer::Next(Some(state)) => write!(f, "{state}"),
-            Answer::Label(Some(label)) => write!(f, "{label}"),
-            Answer::Next(None) | Answer::Label(None) => write!(f, "none"),
+            Command::Queue(request) => write!(f, "{request}"),
         }
     }
 }

@@ -4,7 +4,7 @@ use script::mistake::Mistake;
 use script::mistake::MistakeDebug;
 use script::mistake::MistakePartialEq;
 use script::mistake::Unread;
-use script::replay::replay;
+use session::replay::replay;
 use std::alloc::AllocError;
 use std::alloc::Global;
 use std::test::*;

@@ -22,3 +22,7 @@ returns-in-NotANumber g c plain good =
 pub returns-in-NotHexadecimal : need.returns-in-NotHexadecimal
 returns-in-NotHexadecimal g c plain good =
     subst (λ m. Put (g .W·Write .took) (c .args .f .now) (mistakeText m) (c .write-in-NotHexadecimal .last .self)) (sym (c .in-NotHexadecimal .is)) (c .write-in-NotHexadecimal .ensures .shows plain good)
+
+pub returns-in-TooMuchMemory : need.returns-in-TooMuchMemory
+returns-in-TooMuchMemory g c plain good =
+    subst (λ m. Put (g .W·Write .took) (c .args .f .now) (mistakeText m) (c .write-in-TooMuchMemory .last .self)) (sym (c .in-TooMuchMemory .is)) (c .write-in-TooMuchMemory .ensures .shows plain good)

@@ -1,0 +1,4 @@
+pub mod Answers
+pub mod Replays
+pub mod Sessions
+pub mod Texts
