@@ -17,7 +17,7 @@ pub struct Reader<'a> {
 
 impl<'a> Reader<'a> {
     // At the front of `image`.
-    pub fn new(image: &'a [u8]) -> Reader<'a>
+    pub(crate) fn new(image: &'a [u8]) -> Reader<'a>
         ensures image { λ r. ⌜ now (r .image) ≡ now (image .entry) ⌝ }
         ensures place { λ r. ⌜ r .place ≡ 0 ⌝ }
     {
@@ -25,14 +25,14 @@ impl<'a> Reader<'a> {
     }
 
     // The place of the next entry.
-    pub fn place(&self) -> usize
+    pub(crate) fn place(&self) -> usize
         ensures { λ r. ⌜ r ≡ now (self .entry) .place ⌝ }
     {
         self.place
     }
 
     // Whether all bytes are read.
-    pub fn at_end(&self) -> bool
+    pub(crate) fn at_end(&self) -> bool
         ensures { λ r. ⌜ r ≡ eqb (length (now (now (self .entry) .image))) (now (self .entry) .place) ⌝ }
     {
         self.image.len() == self.place
@@ -53,7 +53,7 @@ impl<'a> Reader<'a> {
     }
 
     // Goes over `entries` entries of one byte, whatever they are.
-    pub fn skip(&mut self, entries: usize) -> Result<(), EndsEarly>
+    pub(crate) fn skip(&mut self, entries: usize) -> Result<(), EndsEarly>
         ensures image { λ _. ⌜ now (now (self .exit) .image) ≡ now (now (self .entry) .image) ⌝ }
         ensures passed { λ r. ⌜ Passed (now (now (self .entry) .image)) (now (self .entry) .place) (now (self .exit) .place) entries r (λ _. Unit {0}) ⌝ }
     {
@@ -62,7 +62,7 @@ impl<'a> Reader<'a> {
     }
 
     // An entry of one byte.
-    pub fn byte(&mut self) -> Result<u8, EndsEarly>
+    pub(crate) fn byte(&mut self) -> Result<u8, EndsEarly>
         ensures image { λ _. ⌜ now (now (self .exit) .image) ≡ now (now (self .entry) .image) ⌝ }
         ensures passed { λ r. ⌜ Passed (now (now (self .entry) .image)) (now (self .entry) .place) (now (self .exit) .place) 1 r (λ b. b ≡ getD (now (now (self .entry) .image)) (now (self .entry) .place) 0) ⌝ }
     {
@@ -71,7 +71,7 @@ impl<'a> Reader<'a> {
     }
 
     // A count: two bytes, the high byte first.
-    pub fn count(&mut self) -> Result<u16, EndsEarly>
+    pub(crate) fn count(&mut self) -> Result<u16, EndsEarly>
         ensures image { λ _. ⌜ now (now (self .exit) .image) ≡ now (now (self .entry) .image) ⌝ }
         ensures passed { λ r. ⌜ Passed (now (now (self .entry) .image)) (now (self .entry) .place) (now (self .exit) .place) 2 r (λ n. n ≡ countAt (now (now (self .entry) .image)) (now (self .entry) .place)) ⌝ }
     {

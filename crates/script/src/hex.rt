@@ -22,7 +22,7 @@ fn digit(byte: u8) -> Option<u8>
 }
 
 // The bytes that the words of `text` write together, two digits for each, or `None` where they write none.
-pub fn bytes(heap: Global, text: &[u8]) -> Result<Option<Vec<u8>>, AllocError>
+pub(crate) fn bytes(heap: Global, text: &[u8]) -> Result<Option<Vec<u8>>, AllocError>
     ensures { λ r. ⌜ made r (λ o. mapped (λ v. vec-items v) o ≡ hexBytes (joined (words (now (text .entry))))) ⌝ }
 {
     let mut bytes = Vec::new(heap);

@@ -49,7 +49,7 @@ static NAMES: [Name; 12] = [
 
 impl Name {
     // How the name is spelled.
-    pub fn spelling(self) -> &'static str
+    pub(crate) fn spelling(self) -> &'static str
         ensures { λ r. ⌜ now r ≡ spelled self ⌝ }
     {
         match self {
@@ -69,7 +69,7 @@ impl Name {
     }
 
     // The name that `word` spells, or `None` where it spells none.
-    pub fn of(word: &[u8]) -> Option<Name>
+    pub(crate) fn of(word: &[u8]) -> Option<Name>
         ensures { λ r. ⌜ r ≡ nameOf (now (word .entry)) ⌝ }
     {
         for name in NAMES.iter() {

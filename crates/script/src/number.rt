@@ -3,7 +3,7 @@ ghost use Rattle.script.specs.Numbers.{byteOf, numberOf};
 ghost use mathlib.Core.Path.{_≡_};
 
 // The number that `word` writes, or `None` where it writes none below 2^64.
-pub fn number(word: &[u8]) -> Option<usize>
+pub(crate) fn number(word: &[u8]) -> Option<usize>
     ensures { λ r. ⌜ r ≡ numberOf (now (word .entry)) ⌝ }
 {
     if word.is_empty() {
@@ -21,7 +21,7 @@ pub fn number(word: &[u8]) -> Option<usize>
 }
 
 // The byte that `word` writes, or `None` where it writes no number below 256.
-pub fn byte(word: &[u8]) -> Option<u8>
+pub(crate) fn byte(word: &[u8]) -> Option<u8>
     ensures { λ r. ⌜ r ≡ byteOf (now (word .entry)) ⌝ }
 {
     match number(word) {

@@ -21,7 +21,7 @@ use std::alloc::Global;
 const MOST_MEMORY: usize = 2_097_152;
 
 // No operand: no word is left.
-pub fn no_operand(rest: &[u8]) -> Result<(), Mistake>
+pub(crate) fn no_operand(rest: &[u8]) -> Result<(), Mistake>
     ensures { λ r. ⌜ r ≡ noOperand (words (now (rest .entry))) ⌝ }
 {
     if first_word(rest).is_some() {
@@ -53,21 +53,21 @@ fn two_words(rest: &[u8]) -> Result<(&[u8], &[u8]), Mistake>
 }
 
 // One operand, a number.
-pub fn one_number(rest: &[u8]) -> Result<usize, Mistake>
+pub(crate) fn one_number(rest: &[u8]) -> Result<usize, Mistake>
     ensures { λ r. ⌜ r ≡ oneNumber (words (now (rest .entry))) ⌝ }
 {
     number::number(one_word(rest)?).ok_or(Mistake::NotANumber)
 }
 
 // One operand, a byte.
-pub fn one_byte(rest: &[u8]) -> Result<u8, Mistake>
+pub(crate) fn one_byte(rest: &[u8]) -> Result<u8, Mistake>
     ensures { λ r. ⌜ r ≡ oneByte (words (now (rest .entry))) ⌝ }
 {
     number::byte(one_word(rest)?).ok_or(Mistake::NotAByte)
 }
 
 // Two operands, a kind of queue and how many bytes of memory it is to stand over.
-pub fn kind_and_length(rest: &[u8]) -> Result<Making, Mistake>
+pub(crate) fn kind_and_length(rest: &[u8]) -> Result<Making, Mistake>
     ensures { λ r. ⌜ r ≡ kindAndLength (words (now (rest .entry))) ⌝ }
 {
     let (first, second) = two_words(rest)?;
@@ -80,7 +80,7 @@ pub fn kind_and_length(rest: &[u8]) -> Result<Making, Mistake>
 }
 
 // Two operands, a number and a byte.
-pub fn number_and_byte(rest: &[u8]) -> Result<(usize, u8), Mistake>
+pub(crate) fn number_and_byte(rest: &[u8]) -> Result<(usize, u8), Mistake>
     ensures { λ r. ⌜ r ≡ numberAndByte (words (now (rest .entry))) ⌝ }
 {
     let (first, second) = two_words(rest)?;
@@ -90,7 +90,7 @@ pub fn number_and_byte(rest: &[u8]) -> Result<(usize, u8), Mistake>
 }
 
 // Bytes in hexadecimal, in any number of words.
-pub fn hex_bytes(heap: Global, rest: &[u8]) -> Result<Vec<u8>, Unread>
+pub(crate) fn hex_bytes(heap: Global, rest: &[u8]) -> Result<Vec<u8>, Unread>
     ensures { λ r. ⌜ Reads r (λ bytes. hexOperand (words (now (rest .entry))) ≡ Ok (vec-items bytes)) (λ mistake. hexOperand (words (now (rest .entry))) ≡ Err mistake) ⌝ }
 {
     match hex::bytes(heap, rest)? {

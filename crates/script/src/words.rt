@@ -5,7 +5,7 @@ ghost use mathlib.Core.Path.{_≡_};
 ghost use mathlib.Core.List.{[], _∷_};
 
 // Whether `byte` separates words: a space, a tab or a carriage return.
-pub fn is_blank(byte: u8) -> bool
+pub(crate) fn is_blank(byte: u8) -> bool
     ensures { λ r. ⌜ r ≡ blank byte ⌝ }
 {
     byte == b' ' || byte == b'\t' || byte == b'\r'
@@ -24,7 +24,7 @@ fn front(line: &[u8], blanks: bool) -> usize
 }
 
 // The first word of a line and what stands behind it, or `None` where the line has no word.
-pub fn first_word(line: &[u8]) -> Option<(&[u8], &[u8])>
+pub(crate) fn first_word(line: &[u8]) -> Option<(&[u8], &[u8])>
     ensures { λ r. ⌜ Cases r (words (now (line .entry)) ≡ []) (λ cut. words (now (line .entry)) ≡ cut .0 .now ∷ words (cut .1 .now)) ⌝ }
 {
     let (_, text) = line.split_at(front(line, true));
