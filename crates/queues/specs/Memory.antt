@@ -4,6 +4,13 @@ use lib.ListN.{length, take, drop}
 use mathlib.Core.List.{List, _++_}
 use Rattle.queues.specs.Queue.{Held}
 
+-- The letters of the two kinds: R and S.
+abbrev pub ringLetter : ℕ
+ringLetter = 82
+
+abbrev pub straightLetter : ℕ
+straightLetter = 83
+
 module _ {T : Type 0} where
   -- The limit of a queue over this memory: its length, and at most 1,048,576.
   abbrev pub limitOf : List T → ℕ
@@ -13,10 +20,10 @@ module _ {T : Type 0} where
   abbrev pub turned : List T → ℕ → List T
   turned memory head = drop head (take (limitOf memory) memory) ++ take head memory
 
-  -- What a ring means: as many elements as it counts, from the head on. Its letter is R.
+  -- What a ring means: as many elements as it counts, from the head on.
   abbrev pub ringHeld : List T → ℕ → ℕ → Held T
-  ringHeld memory head count = record { items = take count (turned memory head); limit = limitOf memory; letter = 82 }
+  ringHeld memory head count = record { items = take count (turned memory head); limit = limitOf memory; letter = ringLetter }
 
-  -- What a straight queue means: its elements are the first of the memory. Its letter is S.
+  -- What a straight queue means: its elements are the first of the memory.
   abbrev pub straightHeld : List T → ℕ → Held T
-  straightHeld memory count = record { items = take count memory; limit = limitOf memory; letter = 83 }
+  straightHeld memory count = record { items = take count memory; limit = limitOf memory; letter = straightLetter }

@@ -1,5 +1,5 @@
 -- What a queue means.
-use Prim.Native.Nat.{ℕ, _≤_, _<_}
+use Prim.Native.Nat.{ℕ}
 use lib.Dec.{ltb}
 use lib.ListN.{length, drop}
 use mathlib.Core.Path.{_≡_}
@@ -26,12 +26,22 @@ module _ {T : Type 0} where
   abbrev pub putRefuses : Held T → Option PutRefusal
   putRefuses q = cond (ltb (length (q .items)) (q .limit)) None (Some (Full (q .letter)))
 
-  -- A put adds at the back, or it is refused and leaves the elements as they were. The limit stays.
-  abbrev pub Put : Held T → T → Result (Unit {0}) PutRefusal → Held T → Type 0
-  Put q x (Ok _) after = (putRefuses q ≡ None) × (after .items ≡ q .items ++ x ∷ []) × (after .limit ≡ q .limit)
-  Put q x (Err f) after = (putRefuses q ≡ Some f) × (after .items ≡ q .items) × (after .limit ≡ q .limit)
+  -- The list is now xs; the limit and the letter are as they were.
+  pub record Becomes (q : Held T) (xs : List T) (after : Held T) : Type 0 where
+    pub items : after .items ≡ xs
+    pub limit : after .limit ≡ q .limit
+    pub letter : after .letter ≡ q .letter
 
-  -- A drop takes k elements from the front, or it is refused, exactly if k exceeds the count, and leaves them.
+  -- A put adds at the back, or it is refused and leaves the list as it was.
+  abbrev pub Put : Held T → T → Result (Unit {0}) PutRefusal → Held T → Type 0
+  Put q x (Ok _) after = (putRefuses q ≡ None) × Becomes q (q .items ++ x ∷ []) after
+  Put q x (Err f) after = (putRefuses q ≡ Some f) × Becomes q (q .items) after
+
+  -- When and how a drop refuses: exactly if k exceeds the count.
+  abbrev pub dropRefuses : Held T → ℕ → Option DropRefusal
+  dropRefuses q k = cond (ltb (length (q .items)) k) (Some BeyondCount) None
+
+  -- A drop takes k elements from the front, or it is refused and leaves the list as it was.
   abbrev pub Dropped : Held T → ℕ → Result (Unit {0}) DropRefusal → Held T → Type 0
-  Dropped q k (Ok _) after = (k ≤ length (q .items)) × (after .items ≡ drop k (q .items)) × (after .limit ≡ q .limit)
-  Dropped q k (Err f) after = (length (q .items) < k) × (after .items ≡ q .items) × (after .limit ≡ q .limit)
+  Dropped q k (Ok _) after = (dropRefuses q k ≡ None) × Becomes q (drop k (q .items)) after
+  Dropped q k (Err f) after = (dropRefuses q k ≡ Some f) × Becomes q (q .items) after

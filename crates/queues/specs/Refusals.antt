@@ -4,15 +4,17 @@ use mathlib.Core.List.{List, [], _∷_}
 use Rattle.queues.specs.declared.refusals.PutRefusal.{PutRefusal}
 use Rattle.queues.specs.declared.refusals.PutRefusal.the-variants.{Full}
 use Rattle.queues.specs.declared.refusals.DropRefusal.{DropRefusal}
-use Rattle.queues.specs.declared.refusals.DropRefusal.the-variants.{BeyondCount}
 
 pub record Told : Type 0 where
   pub number : ℕ
   pub values : List ℕ
 
--- A full queue tells its letter.
+-- The letter of the queue that was full.
+abbrev pub fullLetter : PutRefusal → ℕ
+fullLetter (Full letter) = letter
+
 abbrev pub putTold : PutRefusal → Told
-putTold (Full letter) = record { number = 8; values = letter ∷ [] }
+putTold f = record { number = 8; values = fullLetter f ∷ [] }
 
 abbrev pub dropTold : DropRefusal → Told
-dropTold BeyondCount = record { number = 9; values = [] }
+dropTold f = record { number = 9; values = [] }

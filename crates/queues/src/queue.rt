@@ -2,12 +2,12 @@
 ghost use Rattle.queues.specs.Queue.{Dropped, Held, Put};
 ghost use Rattle.std.specs.shelf.Maps.{nth};
 ghost use mathlib.Core.Path.{_≡_};
-ghost use Prim.Native.Nat.{ℕ, _≤_};
+ghost use Prim.Native.Nat.{_≤_};
 ghost use lib.ListN.{length};
 use crate::refusals::DropRefusal;
 use crate::refusals::PutRefusal;
 
-// The most elements that any queue holds.
+// The most elements that a ring or a straight queue holds.
 pub const MAX_LIMIT: usize = 1_048_576;
 
 // A queue of elements that can be copied: a list with a front and a back, and a limit that never changes.

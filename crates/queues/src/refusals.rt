@@ -1,5 +1,5 @@
 // What a queue refuses.
-ghost use Rattle.queues.specs.Refusals.{dropTold, putTold};
+ghost use Rattle.queues.specs.Refusals.{dropTold, fullLetter, putTold};
 ghost use mathlib.Core.Path.{_≡_};
 
 // Why a put was refused.
@@ -16,6 +16,15 @@ impl PutRefusal {
     {
         match self {
             PutRefusal::Full { .. } => 8,
+        }
+    }
+
+    // The letter of the queue that was full.
+    pub fn letter(self) -> char
+        ensures { λ r. ⌜ r ≡ fullLetter self ⌝ }
+    {
+        match self {
+            PutRefusal::Full { letter } => letter,
         }
     }
 }

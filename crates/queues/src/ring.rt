@@ -1,10 +1,9 @@
 // The ring: a queue that runs round in its memory.
-ghost use Rattle.queues.specs.Memory.{limitOf, ringHeld};
-ghost use Rattle.queues.specs.Queue.{Held};
+ghost use Rattle.queues.specs.Memory.{limitOf, ringHeld, ringLetter};
 ghost use mathlib.Core.Path.{_≡_};
 ghost use mathlib.Core.Bool.{cond};
 ghost use mathlib.Core.List.{[]};
-ghost use Prim.Native.Nat.{ℕ, _+_, _-_, _≤_};
+ghost use Prim.Native.Nat.{_+_, _-_, _≤_};
 ghost use denote.Ref.{now};
 ghost use lib.Dec.{ltb};
 ghost use lib.ListN.{length};
@@ -29,7 +28,7 @@ pub struct Ring<'a, T> {
 impl<'a, T: Copy> Ring<'a, T> {
     // An empty ring over `memory`.
     pub fn new(memory: &'a mut [T]) -> Ring<'a, T>
-        ensures { λ r. ⌜ ringHeld (now (r .memory)) (r .head) (r .count) ≡ record { items = []; limit = limitOf (now (memory .entry)); letter = 82 } ⌝ }
+        ensures { λ r. ⌜ ringHeld (now (r .memory)) (r .head) (r .count) ≡ record { items = []; limit = limitOf (now (memory .entry)); letter = ringLetter } ⌝ }
     {
         Ring {
             memory,

@@ -1,8 +1,8 @@
 // The straight queue: its elements lie in one run at the front of its memory.
-ghost use Rattle.queues.specs.Memory.{limitOf, straightHeld};
+ghost use Rattle.queues.specs.Memory.{limitOf, straightHeld, straightLetter};
 ghost use mathlib.Core.Path.{_≡_};
 ghost use mathlib.Core.List.{[]};
-ghost use Prim.Native.Nat.{ℕ, _≤_};
+ghost use Prim.Native.Nat.{_≤_};
 ghost use denote.Ref.{now};
 ghost use lib.ListN.{length};
 use crate::queue::MAX_LIMIT;
@@ -24,7 +24,7 @@ pub struct Straight<'a, T> {
 impl<'a, T: Copy> Straight<'a, T> {
     // An empty straight queue over `memory`.
     pub fn new(memory: &'a mut [T]) -> Straight<'a, T>
-        ensures { λ r. ⌜ straightHeld (now (r .memory)) (r .count) ≡ record { items = []; limit = limitOf (now (memory .entry)); letter = 83 } ⌝ }
+        ensures { λ r. ⌜ straightHeld (now (r .memory)) (r .count) ≡ record { items = []; limit = limitOf (now (memory .entry)); letter = straightLetter } ⌝ }
     {
         Straight { memory, count: 0 }
     }

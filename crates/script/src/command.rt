@@ -43,7 +43,7 @@ pub enum Command {
     Ask(Question),
     // Make a queue, and take it in hand.
     Make(Making),
-    // Ask the queue in hand.
+    // Make a call on the queue in hand.
     Queue(Request),
 }
 

@@ -10,7 +10,7 @@ pub enum Asked {
     Label,
 }
 
-// The name of a request to a queue.
+// The name of a call on a queue.
 #[derive(Clone, Copy, PartialEq, Eq, Debug)]
 pub enum Requested {
     Count,

@@ -41,7 +41,7 @@ pub struct Making {
     pub length: usize,
 }
 
-// What can be asked of every queue of bytes.
+// The calls on a queue of bytes.
 #[derive(Clone, Copy, PartialEq, Eq, Debug)]
 pub enum Request {
     Count,

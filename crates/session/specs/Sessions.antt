@@ -12,6 +12,7 @@ use Rattle.images.specs.Loaded.{tableOf}
 use Rattle.tables.specs.Share.{shareTable}
 use Rattle.tables.specs.Table.{Table, Empty}
 use Rattle.images.specs.declared.faults.LoadFault.{LoadFault}
+use Rattle.queues.specs.Memory.{ringLetter, straightLetter}
 use Rattle.queues.specs.Queue.{Held}
 use Rattle.script.specs.declared.request.Making.{Making}
 use Rattle.script.specs.declared.request.QueueKind.{QueueKind}
@@ -83,8 +84,8 @@ makingOf (Answered c a) = makes c
 
 -- An empty queue of a kind over memory of a length.
 abbrev pub kindLetter : QueueKind → ℕ
-kindLetter kind.Ring = 82
-kindLetter kind.Straight = 83
+kindLetter kind.Ring = ringLetter
+kindLetter kind.Straight = straightLetter
 
 abbrev pub fresh : Making → Held ℕ
 fresh m = record { items = []; limit = min (m .length) 1048576; letter = kindLetter (m .kind) }

@@ -9,8 +9,7 @@ use Rattle.std.specs.declared.option.Option.the-variants.{Some, None}
 use Rattle.images.specs.Faults.{letterOf, told}
 use Rattle.images.specs.declared.faults.LoadFault.{LoadFault}
 use Rattle.images.specs.declared.faults.LoadFault.the-variants as fault
-use Rattle.queues.specs.declared.refusals.PutRefusal.{PutRefusal}
-use Rattle.queues.specs.declared.refusals.PutRefusal.the-variants as put
+use Rattle.queues.specs.Refusals.{dropTold, fullLetter, putTold}
 use Rattle.script.specs.Texts.{callText, mistakeText}
 use Rattle.session.specs.declared.answer.Answer.{Answer}
 use Rattle.session.specs.declared.answer.Answer.the-variants as answer
@@ -36,10 +35,6 @@ abbrev pub optionText : Option ℕ → List ℕ
 optionText None = codes "none"
 optionText (Some n) = decimal n
 
--- The letter of the queue that was full.
-abbrev pub fullLetter : PutRefusal → ℕ
-fullLetter (put.Full letter) = letter
-
 abbrev pub answerText : Answer → List ℕ
 answerText answer.Done = codes "ok"
 answerText (answer.Refused f) =
@@ -51,8 +46,9 @@ answerText (answer.Label o) = optionText o
 answerText (answer.Count n) = decimal n
 answerText (answer.Limit n) = decimal n
 answerText (answer.Element o) = optionText o
-answerText (answer.NotPut f) = codes "refused: queue full (number 8, letter " ++ (encode (fullLetter f) ++ codes ")")
-answerText (answer.NotDropped f) = codes "refused: drop beyond the count (number 9)"
+answerText (answer.NotPut f) =
+    codes "refused: queue full (number " ++ (decimal (putTold f .number) ++ (codes ", letter " ++ (encode (fullLetter f) ++ codes ")")))
+answerText (answer.NotDropped f) = codes "refused: drop beyond the count (number " ++ (decimal (dropTold f .number) ++ codes ")")
 
 -- What comes of the line with number n: a line of text, or nothing.
 abbrev pub outcomeText : ℕ → Outcome → List ℕ

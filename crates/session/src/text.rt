@@ -1,11 +1,10 @@
 // What is printed of an answer.
-ghost use Rattle.session.specs.Texts.{answerText, faultText, fullLetter, handText};
+ghost use Rattle.session.specs.Texts.{answerText, faultText, handText};
 ghost use Rattle.std.specs.declared.option.Option.the-variants.{Some};
 ghost use mathlib.Core.Path.{_≡_};
 use crate::answer::Answer;
 use crate::answer::Hand;
 use images::faults::LoadFault;
-use queues::refusals::PutRefusal;
 use std::fmt;
 
 pub impl fmt::Display for Hand as HandDisplay {
@@ -30,15 +29,6 @@ fn fault_words(fault: LoadFault) -> &'static str
         LoadFault::StepCount { .. } => "third count not states times classes",
         LoadFault::NextState { .. } => "next state not below the number of states",
         LoadFault::LeftOver { .. } => "bytes left over",
-    }
-}
-
-// The letter of the queue that was full.
-fn full_letter(refusal: PutRefusal) -> char
-    ensures { λ r. ⌜ r ≡ fullLetter refusal ⌝ }
-{
-    match refusal {
-        PutRefusal::Full { letter } => letter,
     }
 }
 
@@ -67,10 +57,14 @@ pub impl fmt::Display for Answer as AnswerDisplay {
             Answer::Element(Some(byte)) => write!(f, "{byte}"),
             Answer::Next(None) | Answer::Label(None) | Answer::Element(None) => write!(f, "none"),
             Answer::NotPut(refusal) => {
-                let letter = full_letter(refusal);
-                write!(f, "refused: queue full (number 8, letter {letter})")
+                let number = refusal.number();
+                let letter = refusal.letter();
+                write!(f, "refused: queue full (number {number}, letter {letter})")
             }
-            Answer::NotDropped(_) => write!(f, "refused: drop beyond the count (number 9)"),
+            Answer::NotDropped(refusal) => {
+                let number = refusal.number();
+                write!(f, "refused: drop beyond the count (number {number})")
+            }
         }
     }
 }

@@ -30,8 +30,8 @@ tellsLabel t s = cond (ltb s (t .states)) (Some (t .label s)) None
 -- The empty table: one state, which accepts nothing, and which every byte leads back to.
 pub record Empty (t : Table) : Type 0 where
   pub one : t .states ≡ 1
-  pub stays : (s b : ℕ) → t .next s b ≡ 0
-  pub accepts-nothing : (s : ℕ) → t .label s ≡ 0
+  pub stays : (b : ℕ) → b < 256 → t .next 0 b ≡ 0
+  pub accepts-nothing : t .label 0 ≡ 0
 
 -- Two tables tell the same.
 pub record Same (t u : Table) : Type 0 where

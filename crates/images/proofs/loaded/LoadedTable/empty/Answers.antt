@@ -16,4 +16,4 @@ ghost-result c =
     (lit≤ tt, (lit≤ tt, (lit≤ tt, (λ b _. omega (arith, zero-at 256 b), (λ s _. omega (arith, zero-at 128 s), (λ i _. omega (arith, zero-at 8192 i), tt))))))
 
 pub returns : need.returns
-returns c = record { one = refl; stays = λ s b. zero-at 8192 (s * 1 + getD (replicate {A = ℕ} 256 0) b 0); accepts-nothing = λ s. zero-at 128 s }
+returns c = record { one = refl; stays = λ b h. zero-at 8192 (0 * 1 + getD (replicate {A = ℕ} 256 0) b 0); accepts-nothing = zero-at 128 0 }

@@ -13,7 +13,7 @@ returns-then-count-limit g c =
     let q = c .args .self .now in
     let long = length-items (q .memory .now) (q .head) (q .inside) (q .count) (q .within) in
     let full = le-ltb (length (take (q .count) (turned (q .memory .now) (q .head)))) (limitOf (q .memory .now)) (omega (arith, long, c .limit-limit .ensures)) in
-    (cond-false _ _ _ full, refl, refl)
+    (cond-false _ _ _ full, record { items = refl; limit = refl; letter = refl })
 
 pub returns : need.returns
 returns g c =
@@ -24,6 +24,9 @@ returns g c =
     let fits = lt-ltb (length (take (q .count) (turned (q .memory .now) (q .head)))) (limitOf (q .memory .now)) (omega (arith, long)) in
     let at = c .wrapped-at .ensures ∙ ap (wrap (q .head) (q .count)) limit in (
       cond-true _ _ _ fits,
-      ap (λ n. take (q .count + 1) (turned (set (q .memory .now) n (c .args .element)) (q .head))) at ∙ put-items (q .memory .now) (q .head) (q .count) (q .inside) (c .args .element) room,
-      ap (λ n. min n 1048576) (length-set (q .memory .now) (c .wrapped-at .result) (c .args .element)),
+      record {
+        items = ap (λ n. take (q .count + 1) (turned (set (q .memory .now) n (c .args .element)) (q .head))) at ∙ put-items (q .memory .now) (q .head) (q .count) (q .inside) (c .args .element) room;
+        limit = ap (λ n. min n 1048576) (length-set (q .memory .now) (c .wrapped-at .result) (c .args .element));
+        letter = refl;
+      },
     )

@@ -1,7 +1,8 @@
 use Prim.Native.Nat.{_+_, _-_, _<_, min}
 use native.Mathlib.Omega.{arith}
 use mathlib.Core.Path.{_≡_, refl, ap, subst}
-use lib.ListN.{length, getD}
+use lib.ListN.{length, getD, take}
+use Rattle.std.proofs.shelf.Tests.{cond-false, le-ltb}
 use Rattle.std.proofs.shelf.Lists.{getD-default, length-take-le}
 use Rattle.queues.proofs.Moving.{Moved, moved-none, moved-more, moved-all}
 use Rattle.queues.proofs.straight.StraightQueue.drop_front.Needs as need
@@ -31,8 +32,13 @@ ghost-self-2 g c = (omega (arith, c .loop-i .inv .0 .long, c .args .self .now .w
 pub returns : need.returns
 returns g c =
     let q = c .args .self .now in
-    let all : c .loop-i .i ≡ q .count - c .args .k = omega arith in (
-      omega (arith, length-take-le (q .count) (q .memory .now) (omega (arith, q .within))),
-      moved-all (c .args .k) (q .count) (q .memory .now) (c .loop-i .self .memory .now) (omega arith) (omega (arith, q .within)) (subst (λ n. Moved (c .args .k) n (q .memory .now) (c .loop-i .self .memory .now)) all (c .loop-i .inv .0)),
-      ap (λ n. min n 1048576) (c .loop-i .inv .0 .long),
+    let all : c .loop-i .i ≡ q .count - c .args .k = omega arith in
+    let long = length-take-le (q .count) (q .memory .now) (omega (arith, q .within)) in
+    let enough = le-ltb (length (take (q .count) (q .memory .now))) (c .args .k) (omega (arith, long)) in (
+      cond-false _ _ _ enough,
+      record {
+        items = moved-all (c .args .k) (q .count) (q .memory .now) (c .loop-i .self .memory .now) (omega arith) (omega (arith, q .within)) (subst (λ n. Moved (c .args .k) n (q .memory .now) (c .loop-i .self .memory .now)) all (c .loop-i .inv .0));
+        limit = ap (λ n. min n 1048576) (c .loop-i .inv .0 .long);
+        letter = refl;
+      },
     )

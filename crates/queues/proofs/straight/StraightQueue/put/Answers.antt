@@ -1,6 +1,6 @@
 use Prim.Native.Nat.{_<_, min}
 use native.Mathlib.Omega.{arith}
-use mathlib.Core.Path.{ap}
+use mathlib.Core.Path.{refl, ap}
 use lib.ListN.{length, take}
 use Rattle.std.proofs.shelf.Lists.{length-set, length-take-le, take-more-set}
 use Rattle.std.proofs.shelf.Tests.{cond-true, lt-ltb}
@@ -13,6 +13,9 @@ returns g c =
     let long = length-take-le (q .count) (q .memory .now) (omega (arith, q .within)) in
     let room : q .count < limitOf (q .memory .now) = omega (arith, c .limit .ensures) in (
       cond-true _ _ _ (lt-ltb (length (take (q .count) (q .memory .now))) (limitOf (q .memory .now)) (omega (arith, long))),
-      take-more-set (q .memory .now) (q .count) (c .args .element) (omega arith),
-      ap (λ n. min n 1048576) (length-set (q .memory .now) (q .count) (c .args .element)),
+      record {
+        items = take-more-set (q .memory .now) (q .count) (c .args .element) (omega arith);
+        limit = ap (λ n. min n 1048576) (length-set (q .memory .now) (q .count) (c .args .element));
+        letter = refl;
+      },
     )

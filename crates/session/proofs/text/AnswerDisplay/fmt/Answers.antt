@@ -1,10 +1,6 @@
-use mathlib.Core.Path.{sym, ap, subst, _∙_}
-use mathlib.Core.List.{_++_}
-use lib.Chars.{codes}
-use lib.Utf8.{encode}
+use mathlib.Core.Path.{subst}
 use Rattle.std.specs.Written.{Put}
-use Rattle.session.specs.Texts.{answerText}
-use Rattle.session.proofs.Printed.{refusal-is}
+use Rattle.session.proofs.Printed.{refusal-is, put-is, drop-is}
 use Rattle.session.proofs.text.AnswerDisplay.fmt.Needs as need
 
 pub returns-in-Refused : need.returns-in-Refused
@@ -16,9 +12,9 @@ returns-in-Refused g c plain good =
 pub returns-in-NotPut : need.returns-in-NotPut
 returns-in-NotPut g c plain good =
     subst (λ l. Put (g .W·Write .took) (c .args .f .now) l (c .write-in-NotPut .last .self))
-    (ap (λ n. codes "refused: queue full (number 8, letter " ++ (encode n ++ codes ")")) (c .full-letter-letter .ensures) ∙ sym (ap answerText (c .in-NotPut .is)))
-    (c .write-in-NotPut .ensures .shows plain good)
+    (put-is _ _ _ _ (c .in-NotPut .is) (c .number-number-in-NotPut .ensures) (c .letter-letter .ensures)) (c .write-in-NotPut .ensures .shows plain good)
 
 pub returns-in-NotDropped : need.returns-in-NotDropped
 returns-in-NotDropped g c plain good =
-    subst (λ a. Put (g .W·Write .took) (c .args .f .now) (answerText a) (c .write-in-NotDropped .last .self)) (sym (c .in-NotDropped .is)) (c .write-in-NotDropped .ensures .shows plain good)
+    subst (λ l. Put (g .W·Write .took) (c .args .f .now) l (c .write-in-NotDropped .last .self))
+    (drop-is _ _ _ (c .in-NotDropped .is) (c .number-number-in-NotDropped .ensures)) (c .write-in-NotDropped .ensures .shows plain good)
