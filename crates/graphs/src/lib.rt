@@ -1,4 +1,6 @@
 // Graphs of at most 128 nodes: what every graph tells, and the search over every graph.
+#![tactic(auto)]
+
 mod arrival;
 pub mod graph;
 pub mod narrowed;

@@ -1,4 +1,6 @@
 // Queues over memory that the caller lends: the ring and the straight queue, under one trait.
+#![tactic(auto)]
+
 pub mod laws;
 pub mod queue;
 pub mod refusals;

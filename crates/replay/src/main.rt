@@ -1,4 +1,6 @@
 // Plays a script from standard input, and prints what comes of it.
+#![tactic(auto)]
+
 use session::replay::replay;
 use std::io::Read;
 

@@ -1,4 +1,6 @@
 // The script language: how a script is cut into lines, and what a line says.
+#![tactic(auto)]
+
 pub mod command;
 mod hex;
 pub mod laws;

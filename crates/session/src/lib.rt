@@ -1,4 +1,6 @@
 // Sessions: what the commands of a script do, and what is printed.
+#![tactic(auto)]
+
 pub mod answer;
 pub mod replay;
 pub mod session;

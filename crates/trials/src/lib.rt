@@ -1,4 +1,6 @@
 // Examples of what the library does, each proved safe and then run.
+#![tactic(auto)]
+
 #[cfg(test)]
 mod graphs;
 #[cfg(test)]
