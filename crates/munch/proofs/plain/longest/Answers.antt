@@ -11,14 +11,14 @@ loop-i-preserved g c =
     let table = g.T.RuleTable.meaning c.args.table.now in
     let bytes = c.args.bytes.now in
     let i = c.loop-i.i in
-    let to = c.in-ok-state.state in
+    let to = c.in_ok-state.state in
     let more : i < length bytes = omega arith in
     let moved : to ≡ state_at table bytes (i + 1) =
-    told c.loop-i.state table.states to _ c.next.result c.loop-i.invariant.1 c.next.ensures c.in-ok-state.was
+    told c.loop-i.state table.states to _ c.next.result c.loop-i.invariant.1 c.next.ensures c.in_ok-state.was
     ∙ ap (λ s. table.next s (get_or bytes i 0)) c.loop-i.invariant.0 ∙ sym (state_more table bytes i more) in
     let inside : to < table.states = search rules in
-    let rule : c.in-ok-rule.rule ≡ table.label (state_at table bytes (i + 1)) =
-    told to table.states c.in-ok-rule.rule _ c.label.result inside c.label.ensures c.in-ok-rule.was
+    let rule : c.in_ok-rule.rule ≡ table.label (state_at table bytes (i + 1)) =
+    told to table.states c.in_ok-rule.rule _ c.label.result inside c.label.ensures c.in_ok-rule.was
     ∙ ap (λ s. table.label s) moved in
     let Tells : Option (ℕ × ℕ) → Type 0 = λ best. TellsLongest table (take (i + 1) bytes) best in (
       moved,

@@ -4,12 +4,12 @@ use Rattle.munch.specs.Munch.{done, fails}
 use Rattle.munch.proofs.Writing.{rest_more, written_all, written_more}
 use Rattle.munch.proofs.plain.munch.Goals as goal
 
-pub returns-in-default : goal.returns-in-default
-returns-in-default g c =
+pub returns-in_default : goal.returns-in_default
+returns-in_default g c =
     let table = g.T.RuleTable.meaning c.args.table.now in
     let bytes = c.args.bytes.now in
     let place = c.loop-place.place in
-    let nothing = rw take_rest at c.in-default.ensures in
+    let nothing = rw take_rest at c.in_default.ensures in
     let left : 0 < length (drop place bytes) = simp length-drop (omega arith) in
     record {
       fits = c.if-list-bytes.false;

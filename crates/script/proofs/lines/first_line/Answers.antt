@@ -5,15 +5,15 @@ use Rattle.script.specs.Lines.{lines}
 use Rattle.script.proofs.Ending.{last_line, next_line}
 use Rattle.script.proofs.lines.first_line.Goals as goal
 
-pub returns-then-is-empty : goal.returns-then-is-empty
-returns-then-is-empty c = ap lines (nil_from_length _ (eqb-true _ 0 (sym c.if-is-empty.ensures)))
+pub returns-then-is_empty : goal.returns-then-is_empty
+returns-then-is_empty c = ap lines (nil_from_length _ (eqb-true _ 0 (sym c.if-is_empty.ensures)))
 
-pub returns-then-is-empty-2 : goal.returns-then-is-empty-2
-returns-then-is-empty-2 c =
-    let cut = c.split-at.ensures in
-    last_line _ _ _ _ c.line-length.ensures cut.front cut.back (omega (arith, eqb-false _ 0 (sym c.if-is-empty.ensures))) (eqb-true _ 0 (sym c.if-is-empty-2.ensures))
+pub returns-then-is_empty-2 : goal.returns-then-is_empty-2
+returns-then-is_empty-2 c =
+    let cut = c.split_at.ensures in
+    last_line _ _ _ _ c.line_length.ensures cut.front cut.back (omega (arith, eqb-false _ 0 (sym c.if-is_empty.ensures))) (eqb-true _ 0 (sym c.if-is_empty-2.ensures))
 
 pub returns : goal.returns
 returns c =
-    let cut = c.split-at.ensures in
-    next_line _ _ _ _ c.line-length.ensures cut.front cut.back (omega (arith, eqb-false _ 0 (sym c.if-is-empty-2.ensures)))
+    let cut = c.split_at.ensures in
+    next_line _ _ _ _ c.line_length.ensures cut.front cut.back (omega (arith, eqb-false _ 0 (sym c.if-is_empty-2.ensures)))

@@ -6,12 +6,12 @@ use Rattle.session.proofs.replay.play_new.Goals as goal
 
 pub returns-in-Ring : goal.returns-in-Ring
 returns-in-Ring c =
-    let new = c.new-ring.ensures ∙ fresh_is _ c.args.making 82 (c.as-mut-slice.ensures.len ∙ c.in-ok-memory.ensures.len) (ap kind_letter c.in-Ring.is) in
-    let ring = c.play-over.new.queue in
-    over_new _ _ _ _ (ring_held ring.memory.now ring.head ring.count) _ _ _ _ _ _ _ new c.play-over.ensures
+    let new = c.new-ring.ensures ∙ fresh_is _ c.args.making 82 (c.as_mut_slice.ensures.len ∙ c.in_ok-memory.ensures.len) (ap kind_letter c.in-Ring.is) in
+    let ring = c.play_over.new.queue in
+    over_new _ _ _ _ (ring_held ring.memory.now ring.head ring.count) _ _ _ _ _ _ _ new c.play_over.ensures
 
 pub returns : goal.returns
 returns c =
-    let new = c.new-straight.ensures ∙ fresh_is _ c.args.making 83 (c.as-mut-slice-in-Straight.ensures.len ∙ c.in-ok-memory.ensures.len) (ap kind_letter c.in-Straight.is) in
-    let straight = c.play-over-in-Straight.new.queue in
-    over_new _ _ _ _ (straight_held straight.memory.now straight.count) _ _ _ _ _ _ _ new c.play-over-in-Straight.ensures
+    let new = c.new-straight.ensures ∙ fresh_is _ c.args.making 83 (c.as_mut_slice-in-Straight.ensures.len ∙ c.in_ok-memory.ensures.len) (ap kind_letter c.in-Straight.is) in
+    let straight = c.play_over-in-Straight.new.queue in
+    over_new _ _ _ _ (straight_held straight.memory.now straight.count) _ _ _ _ _ _ _ new c.play_over-in-Straight.ensures

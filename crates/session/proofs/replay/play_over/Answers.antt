@@ -6,12 +6,12 @@ pub returns-in-Some-making : goal.returns-in-Some-making
 returns-in-Some-making g c =
     let inv = c.loop-line.invariant in
     let cut = c.in-Some.ensures in
-    let line = leads_line _ _ _ _ _ _ _ _ _ _ _ c.in-ok-outcome.outcome _ cut.0 c.in-ok-outcome.ensures (sym c.in-Some-making.is ∙ c.making-making.ensures) (c.as-str.ensures.value ∙ c.in-ok-text.ensures) c.in-ok-push-str.ensures.bytes in
+    let line = leads_line _ _ _ _ _ _ _ _ _ _ _ c.in_ok-outcome.outcome _ cut.0 c.in_ok-outcome.ensures (sym c.in-Some-making.is ∙ c.making-making.ensures) (c.as_str.ensures.value ∙ c.in_ok-text.ensures) c.in_ok-push_str.ensures.bytes in
     (leads_on _ _ _ inv.0 line, omega (arith, inv.1, cut.1), omega (arith, inv.2, cut.1))
 
 pub loop-line-preserved : goal.loop-line-preserved
 loop-line-preserved g c =
     let inv = c.loop-line.invariant in
     let cut = c.in-Some.ensures in
-    let line = leads_line _ _ _ _ _ _ _ _ _ _ _ c.in-ok-outcome.outcome _ cut.0 c.in-ok-outcome.ensures (sym c.in-default-making.is ∙ c.making-making.ensures) (c.as-str.ensures.value ∙ c.in-ok-text.ensures) c.in-ok-push-str.ensures.bytes in
+    let line = leads_line _ _ _ _ _ _ _ _ _ _ _ c.in_ok-outcome.outcome _ cut.0 c.in_ok-outcome.ensures (sym c.in_default-making.is ∙ c.making-making.ensures) (c.as_str.ensures.value ∙ c.in_ok-text.ensures) c.in_ok-push_str.ensures.bytes in
     (leads_on _ _ _ inv.0 line, omega (arith, inv.1, cut.1), omega (arith, inv.2, cut.1))

@@ -4,7 +4,7 @@ use Rattle.graphs.specs.declared.search.Reached.{Reached}
 use Rattle.graphs.specs.Nodes.{has}
 use Rattle.graphs.proofs.Growing.{Grows, grows_few, grows_old, grows_to}
 use Rattle.graphs.proofs.search.Reached.expand.Goals as goal
-use Rattle.graphs.proofs.search.Reached.expand.Goals.{in-Some, in-default}
+use Rattle.graphs.proofs.search.Reached.expand.Goals.{in-Some, in_default}
 
 pub note-requires : goal.note-requires
 note-requires g c =
@@ -27,8 +27,8 @@ loop-slot-preserved g c =
           subst (λ (ys : List (Option Arrival)). Grows edges starts c.args.node (at + 1) c.if-contains.steps before ys)
           (sym (ap (λ (r : Reached). r.arrivals) w.self-is ∙ w.note.ensures))
           (grows_to edges starts c.args.node at c.if-contains.steps w.in-Some.to before xs c.loop-slot.self.long c.requires.few c.loop-slot.invariant (sym told.value) told.inside)
-      | in-default w ↦
+      | in_default w ↦
           subst (λ (ys : List (Option Arrival)). Grows edges starts c.args.node (at + 1) c.if-contains.steps before ys)
           (sym (ap (λ (r : Reached). r.arrivals) w.self-is))
-          (grows_old edges starts c.args.node at c.if-contains.steps before xs c.loop-slot.invariant (λ b is. absurd (w.in-default.not-Some b (c.neighbour.ensures.value ∙ is))))
+          (grows_old edges starts c.args.node at c.if-contains.steps before xs c.loop-slot.invariant (λ b is. absurd (w.in_default.not-Some b (c.neighbour.ensures.value ∙ is))))
     ]

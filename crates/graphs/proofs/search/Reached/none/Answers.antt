@@ -2,5 +2,5 @@ use Rattle.std.proofs.Common.{refl, arith}
 use Rattle.graphs.proofs.Growing.{none_steps}
 use Rattle.graphs.proofs.search.Reached.none.Goals as goal
 
-pub invariant-of-result : goal.invariant-of-result
-invariant-of-result c = (refl, (λ k. omega (arith, none_steps k), tt))
+pub invariant_of-result : goal.invariant_of-result
+invariant_of-result c = (refl, (λ k. omega (arith, none_steps k), tt))

@@ -28,6 +28,6 @@ returns g c =
     let starts = has c.args.starts.now in
     let inv = c.loop-node.invariant in
     record {
-      marks = marks_right edges starts c.loop-node.reached.arrivals (λ a inside known. inv.1 a (c.in-default.ensures a (omega (arith, inside, c.nodes-nodes.ensures.value)) known)) inv.0.traced;
+      marks = marks_right edges starts c.loop-node.reached.arrivals (λ a inside known. inv.1 a (c.in_default.ensures a (omega (arith, inside, c.nodes-nodes.ensures.value)) known)) inv.0.traced;
       traced = inv.0.traced;
     }

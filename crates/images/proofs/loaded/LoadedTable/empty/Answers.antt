@@ -7,8 +7,8 @@ zero-at zero i = refl
 zero-at (suc n) zero = refl
 zero-at (suc n) (suc i) = zero-at n i
 
-pub invariant-of-result : goal.invariant-of-result
-invariant-of-result c =
+pub invariant_of-result : goal.invariant_of-result
+invariant_of-result c =
     (lit≤ tt, (lit≤ tt, (lit≤ tt, (λ b _. omega (arith, zero-at 256 b), (λ s _. omega (arith, zero-at 128 s), (λ i _. omega (arith, zero-at 8192 i), tt))))))
 
 pub returns : goal.returns

@@ -4,17 +4,17 @@ use Rattle.images.specs.Image.{state_count}
 use Rattle.images.proofs.Filled.{label_at, classes_inside, steps_inside, writes_down}
 use Rattle.images.proofs.loaded.LoadedTable.fill.Goals as goal
 
-pub copy-front-requires-3 : goal.copy-front-requires-3
-copy-front-requires-3 c =
+pub copy_front-requires-3 : goal.copy_front-requires-3
+copy_front-requires-3 c =
     let all : length c.args.self.now.steps ≡ 8192 = search rules in
     simp (length-take, length-drop) (omega (arith, all, mul-le-mul c.requires.few_states c.requires.few_classes))
 
-pub invariant-of-self : goal.invariant-of-self
-invariant-of-self c =
+pub invariant_of-self : goal.invariant_of-self
+invariant_of-self c =
     let m = c.requires in
-    let classes = c.copy-front.ensures in
-    let labels = c.copy-front-2.ensures in
-    let steps = c.copy-front-3.ensures in (
+    let classes = c.copy_front.ensures in
+    let labels = c.copy_front-2.ensures in
+    let steps = c.copy_front-3.ensures in (
       omega (arith, m.states, (m.orderly state_count 258 refl).right),
       (
         m.few_states,
@@ -23,7 +23,7 @@ invariant-of-self c =
           (
             classes_inside _ _ _ m _ _ _ _ _ _ classes labels steps,
             (
-              λ s h. omega (arith, label_at _ _ _ m _ _ _ _ _ _ classes labels steps s h, c.type-inv.image (260 + s)),
+              λ s h. omega (arith, label_at _ _ _ m _ _ _ _ _ _ classes labels steps s h, c.type_inv.image (260 + s)),
               (
                 steps_inside _ _ _ m _ _ _ _ _ _ classes labels steps,
                 tt,
@@ -35,4 +35,4 @@ invariant-of-self c =
     )
 
 pub returns : goal.returns
-returns c = writes_down _ _ _ c.requires _ _ _ _ _ _ c.copy-front.ensures c.copy-front-2.ensures c.copy-front-3.ensures
+returns c = writes_down _ _ _ c.requires _ _ _ _ _ _ c.copy_front.ensures c.copy_front-2.ensures c.copy_front-3.ensures

@@ -3,10 +3,10 @@ use Rattle.std.proofs.lemmas.Result.{err_from_is_err_and}
 use Rattle.images.proofs.Sections.{labels_cut, labels_orderly}
 use Rattle.images.proofs.loaded.load.read_labels.Goals as goal
 
-pub returns-in-err-skip : goal.returns-in-err-skip
-returns-in-err-skip c =
+pub returns-in_err-skip : goal.returns-in_err-skip
+returns-in_err-skip c =
     let p = err_from_is_err_and c.from-residual.result c.from-residual.ensures.1 in
-    let told = c.in-err-skip.ensures in
+    let told = c.in_err-skip.ensures in
     let reader = c.args.reader.now in
     rw (p.1, p.2)
     (record { image = told.image; cases = labels_cut _ _ _ c.requires.states (omega (arith, reader.inside, c.requires.place)) c.requires.before (omega (arith, told.passed.0, c.requires.place), told.passed.1) })

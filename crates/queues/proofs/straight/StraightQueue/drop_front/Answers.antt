@@ -23,8 +23,8 @@ loop-i-preserved g c =
       inv.1,
     )
 
-pub invariant-of-self-2 : goal.invariant-of-self-2
-invariant-of-self-2 g c = (omega (arith, c.loop-i.invariant.0.long, c.args.self.now.within), tt)
+pub invariant_of-self-2 : goal.invariant_of-self-2
+invariant_of-self-2 g c = (omega (arith, c.loop-i.invariant.0.long, c.args.self.now.within), tt)
 
 pub returns : goal.returns
 returns g c =

@@ -12,16 +12,16 @@ told word bytes spelling r b decides is said =
 
 pub returns-then-eq : goal.returns-then-eq
 returns-then-eq c =
-    sym (cond-true _ _ _ (told _ _ _ _ _ (slice_eq-Decides Decides-eqb _ _ _ c.eq.ensures) (c.as-bytes.ensures.value ∙ c.spelling.ensures) c.if-eq.true))
+    sym (cond-true _ _ _ (told _ _ _ _ _ (slice_eq-Decides Decides-eqb _ _ _ c.eq.ensures) (c.as_bytes.ensures.value ∙ c.spelling.ensures) c.if-eq.true))
 
 pub returns-then-eq-2 : goal.returns-then-eq-2
 returns-then-eq-2 c =
-    let first = told _ _ _ _ _ (slice_eq-Decides Decides-eqb _ _ _ c.eq.ensures) (c.as-bytes.ensures.value ∙ c.spelling.ensures) c.if-eq.false in
-    let second = told _ _ _ _ _ (slice_eq-Decides Decides-eqb _ _ _ c.eq-else-eq.ensures) (c.as-bytes-else-eq.ensures.value ∙ c.spelling-else-eq.ensures) c.if-eq-2.true in
+    let first = told _ _ _ _ _ (slice_eq-Decides Decides-eqb _ _ _ c.eq.ensures) (c.as_bytes.ensures.value ∙ c.spelling.ensures) c.if-eq.false in
+    let second = told _ _ _ _ _ (slice_eq-Decides Decides-eqb _ _ _ c.eq-else-eq.ensures) (c.as_bytes-else-eq.ensures.value ∙ c.spelling-else-eq.ensures) c.if-eq-2.true in
     sym (cond-false _ _ _ first ∙ cond-true _ _ _ second)
 
 pub returns-else-eq-2 : goal.returns-else-eq-2
 returns-else-eq-2 c =
-    let first = told _ _ _ _ _ (slice_eq-Decides Decides-eqb _ _ _ c.eq.ensures) (c.as-bytes.ensures.value ∙ c.spelling.ensures) c.if-eq.false in
-    let second = told _ _ _ _ _ (slice_eq-Decides Decides-eqb _ _ _ c.eq-else-eq.ensures) (c.as-bytes-else-eq.ensures.value ∙ c.spelling-else-eq.ensures) c.if-eq-2.false in
+    let first = told _ _ _ _ _ (slice_eq-Decides Decides-eqb _ _ _ c.eq.ensures) (c.as_bytes.ensures.value ∙ c.spelling.ensures) c.if-eq.false in
+    let second = told _ _ _ _ _ (slice_eq-Decides Decides-eqb _ _ _ c.eq-else-eq.ensures) (c.as_bytes-else-eq.ensures.value ∙ c.spelling-else-eq.ensures) c.if-eq-2.false in
     sym (cond-false _ _ _ first ∙ cond-false _ _ _ second)

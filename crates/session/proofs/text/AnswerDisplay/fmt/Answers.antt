@@ -6,7 +6,7 @@ use Rattle.session.proofs.text.AnswerDisplay.fmt.Goals as goal
 pub returns-in-Refused-clause-writes : goal.returns-in-Refused-clause-writes
 returns-in-Refused-clause-writes g c plain good =
     subst (λ l. HasWritten g.W.Write.write_str_gives c.args.f.now l c.write-in-Refused.new.self)
-    (refusal_is _ _ _ _ _ _ _ c.in-Refused.is c.fault-words-words.ensures c.layer.ensures c.letter-layer.ensures c.number-number.ensures c.place-place.ensures)
+    (refusal_is _ _ _ _ _ _ _ c.in-Refused.is c.fault_words-words.ensures c.layer.ensures c.letter-layer.ensures c.number-number.ensures c.place-place.ensures)
     (c.write-in-Refused.ensures.writes plain good)
 
 pub returns-in-NotPut-clause-writes : goal.returns-in-NotPut-clause-writes
