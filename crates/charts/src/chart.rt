@@ -23,7 +23,7 @@ impl<T: RuleTable> Chart<T> {
     // Charts `table`: the chart tells rightly which states are open.
     pub fn new(table: T) -> Chart<T>
         ensures same { result.table ≡ table }
-        ensures right { TellsRightly (meaning table) (has result.open) }
+        ensures right { TellsRightly (T.meaning table) (has result.open) }
     {
         let accepting = accepting(&table);
         let open = Reached::search(&Backward::new(&table), &accepting).nodes();
@@ -40,7 +40,7 @@ impl<T: RuleTable> Chart<T> {
 
 // Whether `state` is a state of the table, and accepts.
 fn is_accepting<T: RuleTable>(table: &T, state: usize) -> bool
-    ensures { result ≡ accepts (meaning table.now) state }
+    ensures { result ≡ accepts (T.meaning table.now) state }
 {
     match table.label(state) {
         Some(label) => label != 0,
@@ -50,7 +50,7 @@ fn is_accepting<T: RuleTable>(table: &T, state: usize) -> bool
 
 // The accepting states of a table.
 fn accepting<T: RuleTable>(table: &T) -> NodeSet
-    ensures { (s : ℕ) → has result s ≡ accepts (meaning table.now) s }
+    ensures { (s : ℕ) → has result s ≡ accepts (T.meaning table.now) s }
 {
     let mut accepting = NodeSet::empty();
     for state in 0..table.states() {

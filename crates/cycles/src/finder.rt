@@ -21,10 +21,10 @@ enum Next {
 
 // Asks the slots of `node` that are still to be asked, up to the first that leads to a node that is not done.
 fn scan<G: Graph>(graph: &G, search: &Search, node: usize, known: Told) -> Next
-    requires known { Knows (meaning graph.now) search.now.marks node known }
+    requires known { Knows (G.meaning graph.now) search.now.marks node known }
     requires low { (v : ℕ) → rank (mark_of search.now.marks v) ≤ 128 }
-    requires few { (meaning graph.now).nodes ≤ 128 }
-    ensures { Scanned (meaning graph.now) search.now.marks node result }
+    requires few { (G.meaning graph.now).nodes ≤ 128 }
+    ensures { Scanned (G.meaning graph.now) search.now.marks node result }
 {
     let slots = graph.slots();
     let mut told = known;
@@ -49,9 +49,9 @@ fn scan<G: Graph>(graph: &G, search: &Search, node: usize, known: Told) -> Next
 
 // Goes on from the last node of the trail to a new one, or back to the one before. Answers a cycle, if there is one.
 fn turn<G: Graph>(graph: &G, search: &mut Search) -> Option<Route>
-    requires sound { SoundIn (meaning graph.now) search.old }
+    requires sound { SoundIn (G.meaning graph.now) search.old }
     requires some { 0 < search.old.depth }
-    ensures { MatchOption result (Turned (meaning graph.now) search.old search.new) (IsCycle (meaning graph.now)) }
+    ensures { MatchOption result (Turned (G.meaning graph.now) search.old search.new) (IsCycle (G.meaning graph.now)) }
 {
     let top = search.depth - 1;
     let node = search.trail[top].to;
@@ -74,11 +74,11 @@ fn turn<G: Graph>(graph: &G, search: &mut Search) -> Option<Route>
 
 // Follows every path from `root`, a new node. Answers a cycle, if there is one.
 fn explore<G: Graph>(graph: &G, search: &mut Search, root: usize) -> Option<Route>
-    requires sound { SoundIn (meaning graph.now) search.old }
+    requires sound { SoundIn (G.meaning graph.now) search.old }
     requires none { search.old.depth ≡ 0 }
-    requires root { root < (meaning graph.now).nodes }
+    requires root { root < (G.meaning graph.now).nodes }
     requires reached { mark_of search.old.marks root ≡ New }
-    ensures { MatchOption result (Explored (meaning graph.now) root search.old search.new) (IsCycle (meaning graph.now)) }
+    ensures { MatchOption result (Explored (G.meaning graph.now) root search.old search.new) (IsCycle (G.meaning graph.now)) }
 {
     search.push(Step { slot: 0, to: root });
     while search.depth > 0 {
@@ -91,8 +91,8 @@ fn explore<G: Graph>(graph: &G, search: &mut Search, root: usize) -> Option<Rout
 
 // A node from which the longest path is no shorter than from any other.
 fn tallest<G: Graph>(graph: &G, search: &Search) -> usize
-    ensures inside { result < (meaning graph.now).nodes }
-    ensures most { (v : ℕ) → v < (meaning graph.now).nodes → (told_of (mark_of search.now.marks v)).height ≤ (told_of (mark_of search.now.marks result)).height }
+    ensures inside { result < (G.meaning graph.now).nodes }
+    ensures most { (v : ℕ) → v < (G.meaning graph.now).nodes → (told_of (mark_of search.now.marks v)).height ≤ (told_of (mark_of search.now.marks result)).height }
 {
     let mut best = 0;
     for node in 1..graph.nodes() {
@@ -105,8 +105,8 @@ fn tallest<G: Graph>(graph: &G, search: &Search) -> usize
 
 // The longest path, where every node is done.
 fn longest<G: Graph>(graph: &G, search: &Search) -> Route
-    requires { Complete (meaning graph.now) search.now.marks }
-    ensures { IsLongest (meaning graph.now) result }
+    requires { Complete (G.meaning graph.now) search.now.marks }
+    ensures { IsLongest (G.meaning graph.now) result }
 {
     let start = tallest(graph, search);
     let height = search.known(start).height;
@@ -122,7 +122,7 @@ fn longest<G: Graph>(graph: &G, search: &Search) -> Route
 
 // A cycle of the graph, or a longest path, where there is no cycle. Each slot of a node is asked at most twice.
 pub fn find<G: Graph>(graph: &G) -> Found
-    ensures { Finds (meaning graph.now) result }
+    ensures { Finds (G.meaning graph.now) result }
 {
     let mut search = Search::new();
     for root in 0..graph.nodes() {

@@ -28,7 +28,7 @@ pub struct Munched {
 
 // The length and the rule of the longest accepted beginning of `bytes`, or `None` where no beginning is accepted.
 fn longest<T: RuleTable>(table: &T, bytes: &[u8]) -> Option<(usize, u8)>
-    ensures { TellsLongest (meaning table.now) bytes.now result }
+    ensures { TellsLongest (T.meaning table.now) bytes.now result }
 {
     let mut state = 0;
     let mut best = None;
@@ -45,7 +45,7 @@ fn longest<T: RuleTable>(table: &T, bytes: &[u8]) -> Option<(usize, u8)>
 // Munch of `bytes`: its tokens are written at the front of `list`, and the rest of `list` stays as it is; or `None`
 // where the list is shorter than the bytes, and then nothing changes.
 pub fn munch<T: RuleTable>(table: &T, bytes: &[u8], list: &mut [Lexeme]) -> Option<Munched>
-    ensures { MatchOption result ((length list.old < length bytes.now) × (list.new ≡ list.old)) (λ given. MunchedInto (meaning table.now) bytes.now list.old list.new given) }
+    ensures { MatchOption result ((length list.old < length bytes.now) × (list.new ≡ list.old)) (λ given. MunchedInto (T.meaning table.now) bytes.now list.old list.new given) }
 {
     if list.len() < bytes.len() {
         return None;

@@ -34,7 +34,7 @@ pub enum Answer {
 
 // What a rule table answers to a question.
 pub fn ask<T: RuleTable>(table: &T, question: Question) -> Answer
-    ensures { result ≡ told (meaning table.now) question }
+    ensures { result ≡ told (T.meaning table.now) question }
 {
     match question {
         Question::States => Answer::States(table.states()),
@@ -45,7 +45,7 @@ pub fn ask<T: RuleTable>(table: &T, question: Question) -> Answer
 
 // What a queue of bytes answers to a request.
 pub fn reply<Q: Queue<u8>>(queue: &mut Q, request: Request) -> Answer
-    ensures { Replies (meaning queue.old) request result (meaning queue.new) }
+    ensures { Replies (Q.meaning queue.old) request result (Q.meaning queue.new) }
 {
     match request {
         Request::Count => Answer::Count(queue.count()),

@@ -41,7 +41,7 @@ fn play_over<'a, Q: Queue<u8>>(
     script: &'a [u8],
 ) -> Result<Option<(Making, &'a [u8])>, AllocError>
     requires { player.old.number + length script.now < 2 ^ 64 }
-    ensures { IfOk result (PlayedOver (stage player.old.session (meaning queue.old) player.old.number (lines script.now) (string_bytes player.old.printed)) (length script.now) player.new.session player.new.number (string_bytes player.new.printed) (meaning queue.new)) }
+    ensures { IfOk result (PlayedOver (stage player.old.session (Q.meaning queue.old) player.old.number (lines script.now) (string_bytes player.old.printed)) (length script.now) player.new.session player.new.number (string_bytes player.new.printed) (Q.meaning queue.new)) }
 {
     let mut rest = script;
     while let Some((line, behind)) = first_line(rest) {

@@ -89,7 +89,7 @@ impl Session {
 
     // Makes the call of a command, over the queue in hand, and gives its answer. A new queue is left to the caller.
     pub fn call<Q: Queue<u8>>(&mut self, queue: &mut Q, command: &Command) -> Answer
-        ensures { Answers self.old (meaning queue.old) command.now result self.new (meaning queue.new) }
+        ensures { Answers self.old (Q.meaning queue.old) command.now result self.new (Q.meaning queue.new) }
     {
         match command {
             Command::Share => {
@@ -114,7 +114,7 @@ impl Session {
         heap: Global,
         line: &[u8],
     ) -> Result<Outcome, AllocError>
-        ensures { MatchResult result (λ outcome. Plays self.old (meaning queue.old) line.now outcome self.new (meaning queue.new)) (λ _. (self.new ≡ self.old) × (meaning queue.new ≡ meaning queue.old)) }
+        ensures { MatchResult result (λ outcome. Plays self.old (Q.meaning queue.old) line.now outcome self.new (Q.meaning queue.new)) (λ _. (self.new ≡ self.old) × (Q.meaning queue.new ≡ Q.meaning queue.old)) }
     {
         match Command::read(heap, line) {
             Ok(None) => Ok(Outcome::PassedOver),

@@ -13,7 +13,7 @@ impl Reached {
     // Marks the nodes at the end of a path of one or more edges of `graph` from the nodes of `starts`.
     // Each slot of a node is asked at most once.
     pub fn search<G: Graph>(graph: &G, starts: &NodeSet) -> Reached
-        ensures { Searched (meaning graph.now) (has starts.now) result }
+        ensures { Searched (G.meaning graph.now) (has starts.now) result }
     {
         let nodes = graph.nodes();
         let mut reached = Reached::none();
@@ -52,9 +52,9 @@ impl Reached {
     fn expand<G: Graph>(&mut self, graph: &G, starts: &NodeSet, node: usize)
         requires inside { node < 128 }
         requires known { Known (has starts.now) self.old.arrivals node }
-        requires few { (meaning graph.now).nodes ≤ 128 }
-        requires grown { Grown (meaning graph.now) (has starts.now) self.old.arrivals }
-        ensures { Expanded (meaning graph.now) (has starts.now) node self.old.arrivals self.new.arrivals }
+        requires few { (G.meaning graph.now).nodes ≤ 128 }
+        requires grown { Grown (G.meaning graph.now) (has starts.now) self.old.arrivals }
+        ensures { Expanded (G.meaning graph.now) (has starts.now) node self.old.arrivals self.new.arrivals }
     {
         let steps = if starts.contains(node) {
             0

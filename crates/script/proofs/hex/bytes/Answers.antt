@@ -2,7 +2,7 @@ use Rattle.std.proofs.Common.{◌≡◌, ℕ, List, get_or, is_ok, vec_items, Op
 use Rattle.std.proofs.ResultArms.{chosen}
 use Rattle.script.proofs.Pairing.{Sofar, pass, stop, keep, put, odd, even, digit_small}
 use Rattle.script.proofs.hex.bytes.Goals as goal
-use Rattle.script.proofs.hex.bytes.Goals.{in-None, in-Some-high+in_ok-push}
+use Rattle.script.proofs.hex.bytes.Goals.{in-None, in-Some-high+in_ok-push-in-Some-high}
 
 moved : {bytes bytes' : List ℕ} {high high' : Option ℕ} (text : List ℕ) (i : ℕ) → bytes ≡ bytes' → high ≡ high' → Sofar text bytes high i → Sofar text bytes' high' i
 moved {bytes = bytes} {bytes' = bytes'} {high = high} text i e f told = subst (λ h. Sofar text bytes' h i) f (subst (λ l. Sofar text l high i) e told)
@@ -23,7 +23,7 @@ loop-byte-preserved c =
     let digit = sym c.in-Some.ensures in
     elim c.match-high.branch [
       | in-None w ↦ moved _ _ (sym (ap vec_items w.bytes-is)) (sym w.high-is) (record { reads = keep _ _ _ _ inv _ more other digit w.in-None.is; small = digit_small (get_or c.args.text.now c.loop-byte.byte-index 0) _ digit })
-      | in-Some-high+in_ok-push w ↦
+      | in-Some-high+in_ok-push-in-Some-high w ↦
           let pushed = chosen _ _ _ _ w.push.ensures.items (ap is_ok w.in_ok-push.was) in
           moved _ _ (sym (ap vec_items w.bytes-is ∙ pushed)) (sym w.high-is) (record { reads = put _ _ _ _ inv _ _ more other digit w.in-Some-high.is; small = tt })
     ]

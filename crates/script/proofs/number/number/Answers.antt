@@ -12,12 +12,12 @@ returns-then-not-is_ascii_digit c =
 
 pub returns-in_err-checked_mul : goal.returns-in_err-checked_mul
 returns-in_err-checked_mul c =
-    c.from-residual.ensures
+    c.from_residual.ensures
     ∙ sym (over _ _ _ (2 ^ 64) c.loop-byte-test.true (sym c.if-not-is_ascii_digit.ensures.value) c.loop-byte.invariant.1 (omega (arith, c.in_err-checked_mul.ensures)))
 
 pub returns-in_err-value : goal.returns-in_err-value
 returns-in_err-value c =
-    c.from-residual-in_err-value.ensures
+    c.from_residual-in_err-value.ensures
     ∙ sym (over _ _ _ (2 ^ 64) c.loop-byte-test.true (sym c.if-not-is_ascii_digit.ensures.value) c.loop-byte.invariant.1 (omega (arith, c.in_err-value.ensures, c.in_ok-checked_mul.ensures.1)))
 
 pub loop-byte-preserved : goal.loop-byte-preserved

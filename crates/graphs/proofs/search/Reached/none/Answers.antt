@@ -3,4 +3,4 @@ use Rattle.graphs.proofs.Growing.{none_steps}
 use Rattle.graphs.proofs.search.Reached.none.Goals as goal
 
 pub invariant_of-result : goal.invariant_of-result
-invariant_of-result c = (refl, (λ k. omega (arith, none_steps k), tt))
+invariant_of-result c = record { long = refl; few = λ k. omega (arith, none_steps k) }

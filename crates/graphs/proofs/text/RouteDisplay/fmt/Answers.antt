@@ -17,13 +17,13 @@ pub loop-step-preserved : goal.loop-step-preserved
 loop-step-preserved g c plain =
     let took = g.W.Write.write_str_gives in
     let was = c.loop-step.invariant plain in
-    let wrote = c.in_ok-write-2.ensures.shows was.plain refl in
+    let wrote = c.in_ok-write-2.ensures.writes was.plain refl in
     has_written_of_eq took _ _ _ _ (text-more c.steps-step-items.result.now c.loop-step.step-index (record { slot = 0; to = 0 }) (omega arith)) (has_written_append took _ _ _ _ _ was wrote)
 
 pub returns-clause-writes : goal.returns-clause-writes
 returns-clause-writes g c plain good =
     let took = g.W.Write.write_str_gives in
-    let first = c.in_ok-write.ensures.shows plain refl in
+    let first = c.in_ok-write.ensures.writes plain refl in
     let all = c.loop-step.invariant first.plain in
     has_written_of_eq took _ _ _ _
     (ap (λ (xs : List Step). decimal c.start-start.result ++ flat_map step_text xs) (take_all c.loop-step.step-index c.steps-step-items.result.now (omega arith) ∙ c.steps-step-items.ensures)

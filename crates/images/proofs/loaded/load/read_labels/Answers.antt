@@ -5,7 +5,7 @@ use Rattle.images.proofs.loaded.load.read_labels.Goals as goal
 
 pub returns-in_err-skip : goal.returns-in_err-skip
 returns-in_err-skip c =
-    let p = err_from_is_err_and c.from-residual.result c.from-residual.ensures.1 in
+    let p = err_from_is_err_and c.from_residual.result c.from_residual.ensures.1 in
     let told = c.in_err-skip.ensures in
     let reader = c.args.reader.now in
     rw (p.1, p.2)

@@ -24,7 +24,7 @@ loop-i-preserved g c =
     )
 
 pub invariant_of-self-2 : goal.invariant_of-self-2
-invariant_of-self-2 g c = (omega (arith, c.loop-i.invariant.0.long, c.args.self.now.within), tt)
+invariant_of-self-2 g c = record { within = omega (arith, c.loop-i.invariant.0.long, c.args.self.now.within) }
 
 pub returns : goal.returns
 returns g c =

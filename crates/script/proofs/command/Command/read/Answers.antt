@@ -8,7 +8,7 @@ returns-in_default-of c = said _ _ _ c.in-Some.ensures (sym c.if-is_comment.ensu
 
 pub returns-in_err-command : goal.returns-in_err-command
 returns-in_err-command c =
-    let p = err_from_is_err_and c.from-residual.result c.from-residual.ensures.1 in
+    let p = err_from_is_err_and c.from_residual.result c.from_residual.ensures.1 in
     rw (p.1, p.2)
     (unread _ _ _ c.in-Some.ensures (sym c.if-is_comment.ensures) _ c.in-Some-of.ensures c.in_err-command.field-0.0 c.in_err-command.ensures)
 
