@@ -24,7 +24,7 @@ loop-byte-preserved c =
     elim c.match-high.branch [
       | in-None w ↦ moved _ _ (sym (ap vec_items w.bytes-is)) (sym w.high-is) (record { reads = keep _ _ _ _ inv _ more other digit w.in-None.is; small = digit_small (get_or c.args.text.now c.loop-byte.byte-index 0) _ digit })
       | in-Some-high+in_ok-push-in-Some-high w ↦
-          let pushed = chosen _ _ _ _ w.push-in-Some-high.ensures.items (ap is_ok w.in_ok-push-in-Some-high.was) in
+          let pushed = chosen _ _ _ _ w.push.ensures.items (ap is_ok w.in_ok-push-in-Some-high.was) in
           moved _ _ (sym (ap vec_items w.bytes-is ∙ pushed)) (sym w.high-is) (record { reads = put _ _ _ _ inv _ _ more other digit w.in-Some-high.is; small = tt })
     ]
 
