@@ -86,16 +86,16 @@ fn paths_and_cycles(rt: HostRuntime) -> Result<(), Fail> {
         return Err(Fail::new("no path"));
     };
     assert_eq!(rt; route.start(), 0);
-    assert!(rt; route.steps() == [Step { slot: 97, to: 1 }, Step { slot: 99, to: 3 }]);
+    assert!(rt; route.steps() == [Step { slot: 97, to: 1 }, Step { slot: 99, to: 3 }].as_slice());
     assert!(rt; reached.route_to(0).is_none() && reached.route_to(128).is_none());
     // among states 1 and 2 there is a cycle, and from state 0 to state 3 there is a longest path
     let looping = find(&Narrowed::new(&forward, set_of(&[1, 2]), set_of(&[2])));
     assert!(rt; looping.is_cycle());
-    assert!(rt; looping.route().steps() == [Step { slot: 98, to: 2 }]);
+    assert!(rt; looping.route().steps() == [Step { slot: 98, to: 2 }].as_slice());
     let straight = find(&Narrowed::new(&forward, set_of(&[0, 1]), set_of(&[1, 3])));
     assert!(rt; !straight.is_cycle());
     assert!(rt; straight.route().start() == 0);
-    assert!(rt; straight.route().steps() == [Step { slot: 97, to: 1 }, Step { slot: 99, to: 3 }]);
+    assert!(rt; straight.route().steps() == [Step { slot: 97, to: 1 }, Step { slot: 99, to: 3 }].as_slice());
     let edgeless = find(&Narrowed::new(&forward, NodeSet::empty(), NodeSet::empty()));
     assert!(rt; !edgeless.is_cycle() && edgeless.route().steps().is_empty());
     Ok(())

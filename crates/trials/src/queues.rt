@@ -3,7 +3,6 @@ use queues::queue::Queue;
 use queues::refusals::{DropRefusal, PutRefusal};
 use queues::ring::Ring;
 use queues::straight::Straight;
-use std::process::Abort;
 
 #[derive(Clone, Copy, PartialEq, Debug)]
 struct Pair {
@@ -12,7 +11,7 @@ struct Pair {
 }
 
 // Puts and drops until a queue of 4 has gone round twice.
-fn goes_round<Q: Queue<u8>>(rt: &impl Abort, queue: &mut Q, letter: char) {
+fn goes_round<Q: Queue<u8>>(rt: &HostRuntime, queue: &mut Q, letter: char) {
     for byte in 0..4u8 {
         assert_eq!(rt; queue.put(byte), Ok(()));
     }
@@ -32,7 +31,7 @@ fn goes_round<Q: Queue<u8>>(rt: &impl Abort, queue: &mut Q, letter: char) {
 }
 
 // One pair goes in and comes out.
-fn keeps_pairs<Q: Queue<Pair>>(rt: &impl Abort, queue: &mut Q) {
+fn keeps_pairs<Q: Queue<Pair>>(rt: &HostRuntime, queue: &mut Q) {
     let pair = Pair {
         left: 1,
         right: 70_000,
@@ -44,7 +43,7 @@ fn keeps_pairs<Q: Queue<Pair>>(rt: &impl Abort, queue: &mut Q) {
 }
 
 // Nothing fits.
-fn holds_nothing<Q: Queue<u8>>(rt: &impl Abort, queue: &mut Q, letter: char) {
+fn holds_nothing<Q: Queue<u8>>(rt: &HostRuntime, queue: &mut Q, letter: char) {
     assert_eq!(rt; queue.limit(), 0);
     assert_eq!(rt; queue.put(7), Err(PutRefusal::Full { letter }));
     assert_eq!(rt; queue.drop_front(0), Ok(()));
@@ -54,7 +53,7 @@ fn holds_nothing<Q: Queue<u8>>(rt: &impl Abort, queue: &mut Q, letter: char) {
 
 #[test]
 fn rings(rt: HostRuntime) {
-    assert_eq!(rt; RingQueue::<u8>::LETTER, 'R');
+    assert_eq!(rt; <Ring<'_, u8> as Queue<u8>>::LETTER, 'R');
     goes_round(&rt, &mut Ring::new(&mut [0u8; 4]), 'R');
     holds_nothing(&rt, &mut Ring::new(&mut [0u8; 0]), 'R');
     keeps_pairs(&rt, &mut Ring::new(&mut [Pair { left: 0, right: 0 }; 2]));
@@ -62,7 +61,7 @@ fn rings(rt: HostRuntime) {
 
 #[test]
 fn straight_queues(rt: HostRuntime) {
-    assert_eq!(rt; StraightQueue::<u8>::LETTER, 'S');
+    assert_eq!(rt; <Straight<'_, u8> as Queue<u8>>::LETTER, 'S');
     goes_round(&rt, &mut Straight::new(&mut [0u8; 4]), 'S');
     holds_nothing(&rt, &mut Straight::new(&mut [0u8; 0]), 'S');
     keeps_pairs(
