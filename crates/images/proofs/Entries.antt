@@ -1,8 +1,8 @@
 -- Where the entries of an image stand: no two at one place, and none inside another.
-use Rattle.std.proofs.Common.{◌≡◌, ℕ, ◌+◌, ◌*◌, ◌<◌, ◌≤◌, cond, ltb, ◌⊎◌, List, [], ◌∷◌, length, get_or, sym, refl, ap, ◌∙◌, subst, inl, inr, ⊎_elim, arith}
+use Rattle.std.proofs.Common.{◌≡◌, ℕ, ◌+◌, ◌<◌, ◌≤◌, cond, ltb, List, [], ◌∷◌, get_or, sym, refl, ap, ◌∙◌, subst, ⊎_elim, arith}
 use Rattle.std.proofs.lemmas.Bool.Decides.{nat_tests}
 use Rattle.std.proofs.lemmas.Bool.{cases_lt}
-use Rattle.images.specs.Image.{Entry, class_count, class, state_count, label, step_count, step, end, number_of_states, number_of_classes, labels_end, steps_end, Stands, size, Right, InOrder, OrderlyBefore}
+use Rattle.images.specs.Image.{Entry, class_count, class, state_count, label, step_count, step, end, labels_end, steps_end, Stands, size, InOrder, OrderlyBefore}
 
 abbrev rank : Entry → ℕ
 rank class_count = 0

@@ -1,10 +1,9 @@
 -- A table that is filled with the sections of an image.
-use Rattle.std.proofs.Common.{◌≡◌, ℕ, ◌+◌, ◌-◌, ◌*◌, ◌<◌, ◌≤◌, List, ◌++◌, length, get_or, take, drop, sym, refl, ap, ◌∙◌, subst, arith}
+use Rattle.std.proofs.Common.{◌≡◌, ℕ, ◌+◌, ◌-◌, ◌*◌, ◌<◌, ◌≤◌, List, ◌++◌, length, get_or, take, drop, sym, ap, ◌∙◌, arith}
 use Rattle.std.proofs.lemmas.Nat.{mul-add-lt}
 use Rattle.std.proofs.lemmas.List.{get_or_append_left, get_or-take, get_or-drop, length-take-le, length-drop}
-use Rattle.images.specs.Image.{step, class, class_of, number_of_classes, number_of_states, labels_end, steps_end, WritesDown}
+use Rattle.images.specs.Image.{step, class_of, number_of_classes, number_of_states, WritesDown}
 use Rattle.images.specs.Judging.{Measured}
-use Rattle.tables.specs.Table.{Table}
 use Rattle.images.proofs.Largest.{class_inside}
 
 -- new is old with the places a to e of the image copied to its front

@@ -2,7 +2,7 @@
 use Rattle.std.proofs.Common.{◌≡◌, ℕ, ◌+◌, ◌<◌, ◌≤◌, List, length}
 use Rattle.images.specs.declared.faults.EndsEarly.{EndsEarly}
 use Rattle.images.specs.declared.faults.LoadFault.TheVariants.{Read}
-use Rattle.images.specs.Image.{Entry, Stands, size, Right, InOrder, OrderlyBefore, HasFault, CutAt}
+use Rattle.images.specs.Image.{Entry, Stands, size, Right, OrderlyBefore, HasFault}
 use Rattle.images.proofs.Entries.{orderly_more}
 
 -- the image ends before the entry is whole

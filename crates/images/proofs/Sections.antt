@@ -1,8 +1,8 @@
 -- The sections of an image, entry after entry.
-use Rattle.std.proofs.Common.{◌≡◌, ℕ, zero, suc, ◌+◌, ◌-◌, ◌*◌, ◌<◌, ◌≤◌, max, List, length, get_or, take, drop, sym, refl, ap, ◌∙◌, subst, ⊎_elim, add-zero, add-one, arith}
+use Rattle.std.proofs.Common.{◌≡◌, ℕ, zero, suc, ◌+◌, ◌-◌, ◌*◌, ◌<◌, ◌≤◌, max, List, length, get_or, take, drop, sym, refl, ap, ◌∙◌, subst, arith}
 use Rattle.images.specs.declared.faults.EndsEarly.{EndsEarly}
 use Rattle.images.specs.declared.faults.LoadFault.TheVariants.{Read}
-use Rattle.images.specs.Image.{Entry, class_count, class, state_count, label, step_count, step, end, Stands, size, Right, InOrder, Orderly, OrderlyBefore, HasFault, largest, count_at, number_of_classes, number_of_states, labels_end, steps_end}
+use Rattle.images.specs.Image.{class_count, class, state_count, label, step_count, step, end, Stands, Orderly, OrderlyBefore, HasFault, largest, count_at, number_of_classes, number_of_states, steps_end}
 use Rattle.images.specs.Judging.{Measured}
 use Rattle.images.proofs.Judged.{cut_short, goes_on}
 use Rattle.images.proofs.Largest.{largest_more}

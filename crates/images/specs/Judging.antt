@@ -2,7 +2,7 @@
 use Rattle.std.specs.Prelude.{◌≡◌, ℕ, ◌+◌, ◌*◌, ◌<◌, ◌≤◌, List, length, Result, MatchResult}
 use Rattle.images.specs.declared.faults.EndsEarly.{EndsEarly}
 use Rattle.images.specs.declared.faults.LoadFault.{LoadFault}
-use Rattle.images.specs.Image.{Entry, Stands, size, InOrder, OrderlyBefore, Orderly, HasFault, number_of_states, number_of_classes}
+use Rattle.images.specs.Image.{Entry, Stands, size, OrderlyBefore, Orderly, HasFault, number_of_states, number_of_classes}
 
 -- The byte reader went from place p to place q, over n bytes, and gave r: a value with P, or the fault that they are not all there.
 abbrev pub Passed : {X : Type 0} → List ℕ → ℕ → ℕ → ℕ → Result X EndsEarly → (X → Type 0) → Type 0

@@ -1,5 +1,5 @@
 -- The laws about reach and lateness.
-use Rattle.std.specs.Prelude.{◌≡◌, ℕ, ◌+◌, ◌≤◌, Bool, List, [], ◌∷◌, ◌++◌, length, slice_index}
+use Rattle.std.specs.Prelude.{◌≡◌, ℕ, ◌≤◌, Bool, List, [], ◌∷◌, ◌++◌, length, slice_index}
 use Rattle.tables.specs.Openness.{Word, walk}
 use Rattle.tables.specs.Table.{Sound, Table}
 use Rattle.munch.specs.Cutting.{Cut, FinalPoints, Points, Stop, waits}

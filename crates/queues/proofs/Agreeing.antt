@@ -1,12 +1,12 @@
 -- What a queue answers depends on its list and its limit alone.
-use Rattle.std.proofs.Common.{◌≡◌, ℕ, ◌<◌, ◌≤◌, Bool, true, false, cond, ltb, List, [], ◌∷◌, ◌++◌, length, drop, Some, None, Ok, Err, Option, Result, sym, refl, ap, ◌∙◌, arith}
+use Rattle.std.proofs.Common.{◌≡◌, ℕ, Bool, true, false, cond, ltb, List, [], ◌∷◌, ◌++◌, length, drop, Some, None, Ok, Err, Result, sym, refl, ap, ◌∙◌, arith}
 use Rattle.std.specs.List.{slice_get}
 use Rattle.queues.specs.declared.refusals.PutRefusal.{PutRefusal}
 use Rattle.queues.specs.declared.refusals.PutRefusal.TheVariants.{Full}
 use Rattle.queues.specs.declared.refusals.DropRefusal.{DropRefusal}
 use Rattle.queues.specs.declared.refusals.DropRefusal.TheVariants.{BeyondCount}
 use Rattle.queues.specs.Queue.{Held, Becomes, Put, Dropped, drop_refuses}
-use Rattle.queues.specs.Calls.{Call, count, limit, element, put, drop_front, Answer, put_number, drop_number, Answers, AnswersTo, Run, Equal, Alike}
+use Rattle.queues.specs.Calls.{Call, count, limit, element, put, drop_front, Answer, put_number, drop_number, Answers, Equal, Alike}
 
 clash : (b : Bool) (l m : ℕ) (f : PutRefusal) → cond b None (Some (Full l)) ≡ None → cond b None (Some (Full m)) ≡ Some f → ⊥
 clash true l m f none some = let z : ◌≡◌ {A = ℕ} 0 1 = cc in omega arith

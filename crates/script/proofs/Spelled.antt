@@ -1,5 +1,5 @@
 -- Every command is read back from the words that spell it.
-use Rattle.std.proofs.Common.{◌≡◌, ℕ, ◌+◌, ◌*◌, ◌/◌, ◌%◌, ◌^◌, ◌<◌, ◌≤◌, true, cond, ltb, List, [], ◌∷◌, map, Some, None, Ok, Err, decimal, Option, Result, sym, refl, ap, ◌∙◌, mod-lt, arith}
+use Rattle.std.proofs.Common.{◌≡◌, ℕ, ◌/◌, ◌%◌, ◌^◌, ◌<◌, ◌≤◌, true, ltb, List, [], ◌∷◌, map, Some, Ok, Err, decimal, Option, Result, sym, refl, ap, ◌∙◌, mod-lt, arith}
 use Rattle.std.proofs.lemmas.Nat.{div-add-mod', div_below}
 use Rattle.std.proofs.lemmas.Fmt.{decimal_nonempty, digits_decimal, digits_value-decimal}
 use Rattle.std.proofs.lemmas.Str.Parse.{IsNumeralModel, numerals_by_value, tells_all_ascii_digits}
@@ -18,12 +18,11 @@ use Rattle.script.specs.declared.mistake.Mistake.{Mistake}
 use Rattle.script.specs.declared.mistake.Mistake.TheVariants.{NotANumber, NotAByte, TooMuchMemory, NotHexadecimal}
 use Rattle.script.specs.Commands.{Call, share, load, table, ask, make, queue, says}
 use Rattle.script.specs.Hex.{hex_digit, byte_before, hex_bytes}
-use Rattle.script.specs.Names.{spelled}
 use Rattle.script.specs.Numbers.{below}
 use Rattle.script.specs.Operands.{making}
 use Rattle.script.specs.Reading.{and_then}
 use Rattle.script.specs.Spelling.{hex_char, hex_pair, spells, Bytes, Fit, ReadBack}
-use Rattle.script.specs.Words.{joined, words}
+use Rattle.script.specs.Words.{joined}
 use Rattle.script.proofs.Standing.{cuts}
 use Rattle.script.proofs.Valued.{is_below}
 

@@ -1,9 +1,9 @@
 -- The share table: from states 0 to 6 a byte leads to an accepting state, and from state 7 on every word leads to state 10.
-use Rattle.std.proofs.Common.{◌≡◌, ℕ, suc, ◌<◌, ◌≤◌, Bool, true, false, cond, not, ◌&&◌, eqb, ltb, List, [], ◌∷◌, length, get_or, sym, refl, ◌∙◌, subst, ⊎_elim, arith, lit<, lit≤}
+use Rattle.std.proofs.Common.{◌≡◌, ℕ, suc, ◌<◌, ◌≤◌, Bool, true, not, ◌&&◌, eqb, ltb, List, [], ◌∷◌, length, get_or, sym, refl, ◌∙◌, subst, ⊎_elim, arith, lit<}
 use Rattle.std.proofs.lemmas.Bool.{and_parts, and_left, cases_Bool, cond-false, eq-eqb, ltb-false, ltb-true, ne_eqb, not-true, both_ways}
 use Rattle.tables.specs.declared.kinds.Kind.{Kind}
 use Rattle.tables.specs.Share.{Step, steps, goes, same, kind_of, share_table, share_marks}
-use Rattle.tables.specs.Openness.{Open, TellsRightly, Word, walk}
+use Rattle.tables.specs.Openness.{Open, TellsRightly, walk}
 use Rattle.tables.specs.Computed.{every, at}
 
 -- a byte for each open state, which leads on to an accepting one

@@ -95,7 +95,9 @@ fn paths_and_cycles(rt: HostRuntime) -> Result<(), Fail> {
     let straight = find(&Narrowed::new(&forward, set_of(&[0, 1]), set_of(&[1, 3])));
     assert!(rt; !straight.is_cycle());
     assert!(rt; straight.route().start() == 0);
-    assert!(rt; straight.route().steps() == [Step { slot: 97, to: 1 }, Step { slot: 99, to: 3 }].as_slice());
+    assert!(rt;
+        straight.route().steps() == [Step { slot: 97, to: 1 }, Step { slot: 99, to: 3 }].as_slice()
+    );
     let edgeless = find(&Narrowed::new(&forward, NodeSet::empty(), NodeSet::empty()));
     assert!(rt; !edgeless.is_cycle() && edgeless.route().steps().is_empty());
     Ok(())

@@ -1,4 +1,4 @@
-use Rattle.std.proofs.Common.{◌≡◌, ◌+◌, ◌^◌, ◌<◌, [], length, string_bytes}
+use Rattle.std.proofs.Common.{◌+◌, ◌^◌, ◌<◌, [], length, string_bytes}
 use Rattle.script.specs.Lines.{lines}
 use Rattle.script.specs.declared.request.QueueKind.TheVariants.{Ring}
 use Rattle.session.specs.Replays.{Leads, stage}

@@ -1,5 +1,5 @@
 -- A list of zeros has a zero at every place.
-use Rattle.std.proofs.Common.{◌≡◌, ℕ, zero, suc, ◌+◌, ◌*◌, ◌<◌, get_or, replicate, refl, arith, lit≤}
+use Rattle.std.proofs.Common.{◌≡◌, ℕ, zero, suc, ◌+◌, ◌*◌, get_or, replicate, refl, arith, lit≤}
 use Rattle.images.proofs.loaded.LoadedTable.empty.Goals as goal
 
 zero_at : (n i : ℕ) → get_or (replicate {A = ℕ} n 0) i 0 ≡ 0

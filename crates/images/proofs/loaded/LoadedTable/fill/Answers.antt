@@ -1,4 +1,4 @@
-use Rattle.std.proofs.Common.{◌≡◌, ◌+◌, ◌≤◌, length, refl, mul-le-mul, arith, rules}
+use Rattle.std.proofs.Common.{◌≡◌, ◌+◌, length, refl, mul-le-mul, arith, rules}
 use Rattle.std.proofs.lemmas.List.{length-take, length-drop}
 use Rattle.images.specs.Image.{state_count}
 use Rattle.images.proofs.Filled.{label_at, classes_inside, steps_inside, writes_down}

@@ -1,5 +1,4 @@
-use Rattle.std.proofs.Common.{◌≡◌, sym, ap, ◌∙◌, subst, arith, rules}
-use Rattle.images.specs.Image.{OrderlyBefore}
+use Rattle.std.proofs.Common.{◌≡◌, ◌∙◌, arith}
 use Rattle.images.proofs.Sections.{classes_all, classes_more}
 use Rattle.images.proofs.loaded.load.read_classes.Goals as goal
 

@@ -1,6 +1,6 @@
-use Rattle.std.proofs.Common.{◌+◌, ◌<◌, ◌≤◌, length, arith}
+use Rattle.std.proofs.Common.{arith}
 use Rattle.std.proofs.lemmas.Result.{err_from_is_err_and}
-use Rattle.images.proofs.Sections.{labels_cut, labels_orderly}
+use Rattle.images.proofs.Sections.{labels_cut}
 use Rattle.images.proofs.loaded.load.read_labels.Goals as goal
 
 pub returns-in_err-skip : goal.returns-in_err-skip
