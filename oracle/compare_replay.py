@@ -1,6 +1,6 @@
 """Runs `replay` on generated scripts and compares what it prints with the model.
 
-    python3 oracle/compare_replay.py --replay target/bin/replay [--topic images] [--seed 1]
+    python3 oracle/compare_replay.py --replay crates/replay/out/replay [--topic images] [--seed 1]
 
 Ends with status 0 where every answer is as the model says. Otherwise it reduces the
 first case that differs, prints the script that shows it, and ends with status 1; of a

@@ -3,7 +3,6 @@ ghost use Rattle.charts.specs.Accepting.{accepts};
 ghost use Rattle.graphs.specs.Nodes.{has};
 ghost use Rattle.tables.specs.Openness.{TellsRightly};
 ghost use Rattle.std.specs.Prelude.{◌≡◌, ℕ};
-ghost use Rattle.std.proofs.Common.{rules};
 
 use crate::backward::Backward;
 use graphs::graph::Graph;
@@ -64,7 +63,7 @@ fn accepting<T: RuleTable>(table: &T) -> NodeSet
 impl<T: RuleTable> RuleTable for Chart<T> {
     ghost meaning = { λ c. T.RuleTable.meaning c.table };
 
-    ghost sound = { Prim.search rules };
+    ghost sound = { λ c. T.RuleTable.sound c.table };
 
     fn states(&self) -> usize {
         self.table.states()

@@ -2,4 +2,4 @@ pub mod Openness
 pub mod Share
 pub mod Table
 pub mod Computed
-pub mod ShareRuleTableLemmas
+pub mod ShareSound

@@ -1,11 +1,7 @@
 // The share table: the tokens of a list of motors and their shares of current.
-ghost use Rattle.tables.specs.Share.{goes, labels, share_marks, share_table, steps, kind_of};
-ghost use Rattle.std.specs.Prelude.{◌≡◌, nat_lt, slice_index};
-ghost use Rattle.std.proofs.Math.Path.{refl};
-ghost use Rattle.std.proofs.Math.Dec.{lit≤};
-ghost use Rattle.std.proofs.lemmas.Bool.{ltb-true};
-ghost use Rattle.tables.specs.Computed.{at};
-ghost use Rattle.tables.specs.ShareRuleTableLemmas.{inside, goes_inside};
+ghost use Rattle.tables.specs.Share.{goes, labels, share_marks, share_table, steps};
+ghost use Rattle.tables.specs.ShareSound.{share_table_is_sound};
+ghost use Rattle.std.specs.Prelude.{◌≡◌, slice_index};
 
 use crate::charted::Charted;
 use crate::kinds::Kind;
@@ -60,14 +56,7 @@ pub struct ShareTable;
 impl RuleTable for ShareTable {
     ghost meaning = { λ _. share_table };
 
-    ghost sound = { unfold inside in
-        λ t.
-        record {
-          some = lit≤ tt;
-          few = lit≤ tt;
-          inside = λ s b _ _. goes_inside s (kind_of b) 0 steps refl;
-          labels = λ s h. ltb-true _ _ (at (λ _ x. nat_lt x 256) labels refl s 0 h);
-        } };
+    ghost sound = { λ _. share_table_is_sound };
 
     fn states(&self) -> usize {
         STATES

@@ -1,8 +1,6 @@
 // What a loaded table answers.
 ghost use Rattle.images.specs.Loaded.{table_of};
-ghost use Rattle.std.specs.Prelude.{◌≡◌, ◌+◌, ◌*◌, slice_index_or};
-ghost use Rattle.std.proofs.Common.{arith};
-ghost use Rattle.std.proofs.lemmas.Nat.{mul-add-lt};
+ghost use Rattle.images.specs.LoadedSound.{loaded_table_is_sound};
 
 use crate::loaded::LoadedTable;
 use tables::table::RuleTable;
@@ -10,15 +8,7 @@ use tables::table::RuleTable;
 impl RuleTable for LoadedTable {
     ghost meaning = { table_of };
 
-    ghost sound = { λ t.
-        record {
-          some = t.some_state;
-          few = t.few_states;
-          inside = λ s b hs hb.
-              let class = slice_index_or t.class_of b 0 in
-              t.steps_inside (s * t.classes + class) (omega (arith, mul-add-lt s t.classes class t.states hs (t.classes_inside b hb)));
-          labels = t.labels_are_bytes;
-        } };
+    ghost sound = { loaded_table_is_sound };
 
     fn states(&self) -> usize {
         self.states
