@@ -2,12 +2,12 @@
 #![tactic(auto)]
 
 #[cfg(test)]
-mod graphs;
+mod of_graphs;
 #[cfg(test)]
-mod munch;
+mod of_munch;
 #[cfg(test)]
-mod queues;
+mod of_queues;
 #[cfg(test)]
-mod script;
+mod of_script;
 #[cfg(test)]
-mod tables;
+mod of_tables;
