@@ -2,7 +2,7 @@
 use Rattle.std.proofs.Common.{◌≡◌, ℕ, ◌+◌, ◌-◌, ◌*◌, ◌<◌, ◌≤◌, List, ◌++◌, length, get_or, take, drop, sym, ap, ◌∙◌, arith}
 use Rattle.std.proofs.lemmas.Nat.{mul-add-lt}
 use Rattle.std.proofs.lemmas.List.{get_or_append_left, get_or-take, get_or-drop, length-take-le, length-drop}
-use Rattle.images.specs.Image.{step, class_of, number_of_classes, number_of_states, WritesDown}
+use Rattle.images.specs.Image.{step, class_of_byte, number_of_classes, number_of_states, WritesDown}
 use Rattle.images.specs.Judging.{Measured}
 use Rattle.images.proofs.Largest.{class_inside}
 
@@ -20,7 +20,7 @@ front_at image old new a e is low high i h =
     ∙ get_or-drop a image i 0
 
 module _ (image : List ℕ) (n k : ℕ) (m : Measured image n k) (c0 c1 l0 l1 s0 s1 : List ℕ) (classes : Front image c0 c1 2 258) (labels : Front image l0 l1 260 (260 + n)) (steps : Front image s0 s1 (260 + n + 2) (260 + n + 2 + n * k)) where
-  pub class_at : (b : ℕ) → b < 256 → get_or c1 b 0 ≡ class_of image b
+  pub class_at : (b : ℕ) → b < 256 → get_or c1 b 0 ≡ class_of_byte image b
   class_at b h = front_at image c0 c1 2 258 classes (omega arith) (omega (arith, m.long)) b (omega arith)
 
   pub label_at : (s : ℕ) → s < n → get_or l1 s 0 ≡ get_or image (260 + s) 0
@@ -45,6 +45,6 @@ module _ (image : List ℕ) (n k : ℕ) (m : Measured image n k) (c0 c1 l0 l1 s0
     steps = λ s b hs hb.
         step_at (s * k + get_or c1 b 0) (omega (arith, mul-add-lt s k (get_or c1 b 0) n hs (classes_inside b hb)))
         ∙ ap (λ x. get_or image (260 + n + 2 + (s * k + x)) 0) (class_at b hb)
-        ∙ ap (λ x. get_or image (260 + n + 2 + (s * x + class_of image b)) 0) m.classes
-        ∙ ap (λ x. get_or image (260 + x + 2 + (s * number_of_classes image + class_of image b)) 0) m.states;
+        ∙ ap (λ x. get_or image (260 + n + 2 + (s * x + class_of_byte image b)) 0) m.classes
+        ∙ ap (λ x. get_or image (260 + x + 2 + (s * number_of_classes image + class_of_byte image b)) 0) m.states;
   }

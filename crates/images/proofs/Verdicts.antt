@@ -4,7 +4,7 @@ use Rattle.std.proofs.lemmas.Bool.{cases_lt, cases_eq, cases_order}
 use Rattle.images.specs.declared.faults.EndsEarly.{EndsEarly}
 use Rattle.images.specs.declared.faults.LoadFault.{LoadFault}
 use Rattle.images.specs.declared.faults.LoadFault.TheVariants.{Read, Classes, States, StepCount, NextState, LeftOver}
-use Rattle.images.specs.Image.{Entry, class_count, class, state_count, label, step_count, step, end, count_at, class_of, number_of_classes, number_of_states, labels_end, steps_end, Stands, size, Right, InOrder, Orderly, OrderlyBefore, WritesDown, CutAt, WrongAt, HasFault, HasVerdict, Verdicts}
+use Rattle.images.specs.Image.{Entry, class_count, class, state_count, label, step_count, step, end, count_at, class_of_byte, number_of_classes, number_of_states, labels_end, steps_end, Stands, size, Right, InOrder, Orderly, OrderlyBefore, WritesDown, CutAt, WrongAt, HasFault, HasVerdict, Verdicts}
 use Rattle.tables.specs.Table.{Table, Same}
 use Rattle.images.proofs.Entries.{same_entry, orderly_none, orderly_more}
 use Rattle.images.proofs.Sections.{all_orderly}
@@ -111,7 +111,7 @@ module _ (image : List ℕ) where
 
   written : Orderly image → (t : Table) × WritesDown image t
   written orderly = (
-    record { states = number_of_states image; next = λ s b. get_or image (labels_end image + 2 + (s * number_of_classes image + class_of image b)) 0; label = λ s. get_or image (260 + s) 0 },
+    record { states = number_of_states image; next = λ s b. get_or image (labels_end image + 2 + (s * number_of_classes image + class_of_byte image b)) 0; label = λ s. get_or image (260 + s) 0 },
     record { orderly = orderly; states = refl; labels = λ s h. refl; steps = λ s b hs hb. refl },
   )
 

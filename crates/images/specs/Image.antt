@@ -13,8 +13,8 @@ largest [] = 0
 largest (x ∷ xs) = max x (largest xs)
 
 -- The class of a byte, the number of classes (1 more than the largest class), and the number of states.
-abbrev pub class_of : List ℕ → ℕ → ℕ
-class_of image b = slice_index image (2 + b)
+abbrev pub class_of_byte : List ℕ → ℕ → ℕ
+class_of_byte image b = slice_index image (2 + b)
 
 abbrev pub number_of_classes : List ℕ → ℕ
 number_of_classes image = 1 + largest (take 256 (drop 2 image))
@@ -87,7 +87,7 @@ pub record WritesDown (image : List ℕ) (t : Table) : Type 0 where
   pub orderly : Orderly image
   pub states : t.states ≡ number_of_states image
   pub labels : (s : ℕ) → s < t.states → t.label s ≡ slice_index image (260 + s)
-  pub steps : (s b : ℕ) → s < t.states → b < 256 → t.next s b ≡ slice_index image (labels_end image + 2 + (s * number_of_classes image + class_of image b))
+  pub steps : (s b : ℕ) → s < t.states → b < 256 → t.next s b ≡ slice_index image (labels_end image + 2 + (s * number_of_classes image + class_of_byte image b))
 
 -- All before place p is in order, and the image ends before the entry at p is whole.
 pub record CutAt (image : List ℕ) (e : Entry) (p : ℕ) : Type 0 where
