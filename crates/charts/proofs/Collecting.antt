@@ -1,6 +1,7 @@
 -- A set of nodes is collected, node after node.
-use Rattle.std.proofs.Common.{◌≡◌, ℕ, ◌+◌, ◌<◌, Bool, true, false, ◌&&◌, ◌||◌, eqb, ltb, sym, refl, ap, ◌∙◌, ⊎_elim, arith}
-use Rattle.std.proofs.lemmas.Bool.{and_left, and_from, cases_eq, cases_lt, eq-eqb, le-ltb, lt-ltb, ne_eqb, or_right}
+use Rattle.std.proofs.Common.{◌≡◌, ℕ, ◌+◌, ◌<◌, Bool, true, false, ◌&&◌, ltb, sym, refl, ap, ◌∙◌, ⊎_elim, arith}
+use Rattle.std.proofs.lemmas.Bool.{and_from, cases_eq, cases_lt, le-ltb, lt-ltb}
+use Rattle.graphs.proofs.Sets.{added, kept}
 use Rattle.graphs.specs.Nodes.{Adds, has}
 use Rattle.graphs.specs.declared.nodes.NodeSet.{NodeSet}
 
@@ -17,21 +18,11 @@ module _ (f : ℕ → Bool) where
       (λ more. le-ltb k n more ∙ sym (le-ltb k (n + 1) (omega (arith, more, ne))))
       (cases_lt k n)
 
-  right_false : (b c : Bool) → c ≡ false → (b || c) ≡ b
-  right_false true c none = refl
-  right_false false c none = none
-
   pub collected_yes : (n : ℕ) (s t : NodeSet) → n < 128 → f n ≡ true → Collected n s → Adds s n t → Collected (n + 1) t
   collected_yes n s t few passes was adds k =
-      adds k
-      ∙ ⊎_elim
-      (λ same.
-      or_right (has s k) (eqb k n && ltb n 128) (and_from (eqb k n) (ltb n 128) (eq-eqb k n same) (lt-ltb n 128 few))
-      ∙ sym (and_from (ltb k (n + 1)) (f k) (lt-ltb k (n + 1) (omega (arith, same))) (ap f same ∙ passes)))
-      (λ ne.
-      right_false (has s k) (eqb k n && ltb n 128) (and_left (eqb k n) (ltb n 128) (ne_eqb k n ne))
-      ∙ was k
-      ∙ ap (λ b. b && f k) (same_side k n ne))
+      ⊎_elim
+      (λ same. ap (has t) same ∙ added s n t adds few ∙ sym (and_from (ltb k (n + 1)) (f k) (lt-ltb k (n + 1) (omega (arith, same))) (ap f same ∙ passes)))
+      (λ ne. kept s n t adds k ne ∙ was k ∙ ap (λ b. b && f k) (same_side k n ne))
       (cases_eq k n)
 
   pub collected_no : (n : ℕ) (s : NodeSet) → f n ≡ false → Collected n s → Collected (n + 1) s

@@ -41,10 +41,7 @@ impl<T: RuleTable> Chart<T> {
 fn is_accepting<T: RuleTable>(table: &T, state: usize) -> bool
     ensures { result ≡ accepts (T.meaning table.now) state }
 {
-    match table.label(state) {
-        Some(label) => label != 0,
-        None => false,
-    }
+    table.label(state).is_some_and(|label| label != 0)
 }
 
 // The accepting states of a table.

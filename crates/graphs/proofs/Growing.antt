@@ -4,13 +4,13 @@ use Rattle.std.proofs.lemmas.List.{get_or-set_same, get_or-set_other, get_or-tak
 use Rattle.std.proofs.lemmas.List.Sums.{sum_by-set, count_by-le-length}
 use Rattle.std.proofs.lemmas.Bool.{cases_eq, cases_Bool, both_ways, cond_both, cond-true, cond-false}
 use Rattle.graphs.specs.declared.arrival.Arrival.{Arrival}
-use Rattle.graphs.specs.Arrivals.{Arrived, arrival_at, noted, reached_at, steps_of, steps_to}
+use Rattle.graphs.specs.Arrivals.{Arrived, arrival_at, noted, reached_at, arrival_steps, steps_to}
 use Rattle.graphs.specs.Graph.{Edges, tells}
 use Rattle.graphs.specs.Searching.{Covers, Grown, Keeps, Known}
 use Rattle.graphs.proofs.Lists.{everywhere, take_of_set}
 
 -- a node that takes steps is reached
-pub steps_reached : (o : Option Arrival) → 1 ≤ steps_of o → is_some o ≡ true
+pub steps_reached : (o : Option Arrival) → 1 ≤ arrival_steps o → is_some o ≡ true
 steps_reached None h = absurd (omega arith)
 steps_reached (Some a) h = refl
 
@@ -37,7 +37,7 @@ module _ (g : Edges) (given : ℕ → Bool) where
   reached_steps : (xs : List (Option Arrival)) (k : ℕ) → Grown g given xs → reached_at xs k ≡ true → 1 ≤ steps_to xs k
   reached_steps xs k grown there =
       let found = some_of (arrival_at xs k) there in
-      subst (λ (o : Option Arrival). 1 ≤ steps_of o) (sym found.1) (grown.traced.back k found.0 found.1).some
+      subst (λ (o : Option Arrival). 1 ≤ arrival_steps o) (sym found.1) (grown.traced.back k found.0 found.1).some
 
   counted_few : (xs : List (Option Arrival)) → count_by is_some (take g.nodes xs) ≤ g.nodes
   counted_few xs = omega (arith, count_by-le-length is_some (take g.nodes xs), length-take g.nodes xs)
@@ -94,7 +94,7 @@ module _ (g : Edges) (given : ℕ → Bool) where
         not_zero none zero = omega (arith, reached_steps xs u grown (there none), cond-false (given u) 0 (steps_to xs u) none, zero)
 
         same : given u ≡ false → steps_to after u + 1 ≡ depth xs u + 1
-        same none = ap (λ n. n + 1) (ap steps_of (stays u (there none)) ∙ sym (cond-false (given u) 0 (steps_to xs u) none))
+        same none = ap (λ n. n + 1) (ap arrival_steps (stays u (there none)) ∙ sym (cond-false (given u) 0 (steps_to xs u) none))
 
     old_arrived : (b : ℕ) (a : Arrival) → Arrived g given xs b a → Arrived g given after b a
     old_arrived b a was = record {
@@ -103,7 +103,7 @@ module _ (g : Edges) (given : ℕ → Bool) where
       first = was.first;
       later = λ more.
           let before = was.later more in
-          ap (λ n. n + 1) (ap steps_of (stays a.from (steps_reached (arrival_at xs a.from) (omega (arith, before, more))))) ∙ before;
+          ap (λ n. n + 1) (ap arrival_steps (stays a.from (steps_reached (arrival_at xs a.from) (omega (arith, before, more))))) ∙ before;
     }
 
     abbrev each : (P : ℕ → Type 0) → P v → ((k : ℕ) → k ≢ v → P k) → (k : ℕ) → P k
@@ -113,8 +113,8 @@ module _ (g : Edges) (given : ℕ → Bool) where
     unfolding steps newly
     counted_after =
         each (λ k. steps_to after k ≤ count_by is_some (take g.nodes after))
-        (omega (arith, ap steps_of at_new, one_more, steps_few))
-        (λ k ne. omega (arith, ap steps_of (at_old k ne), one_more, grown.counted k))
+        (omega (arith, ap arrival_steps at_new, one_more, steps_few))
+        (λ k ne. omega (arith, ap arrival_steps (at_old k ne), one_more, grown.counted k))
 
     pub grown_new : Grown g given (with_new xs u slot v)
     unfolding steps newly
@@ -139,7 +139,7 @@ module _ (g : Edges) (given : ℕ → Bool) where
 
     pub few_new : depth xs u + 1 ≤ g.nodes
     unfolding steps newly
-    few_new = omega (arith, counted_after v, ap steps_of at_new, counted_few after)
+    few_new = omega (arith, counted_after v, ap arrival_steps at_new, counted_few after)
 
   -- the first n slots of node u were asked
   pub record Grows (u n steps : ℕ) (before xs : List (Option Arrival)) : Type 0 where
@@ -163,7 +163,7 @@ module _ (g : Edges) (given : ℕ → Bool) where
       (λ ne. covers s b (omega (arith, ne)) is)
       (cases_eq s n)
 
-  covers_kept : (u n : ℕ) (xs ys : List (Option Arrival)) → Keeps xs ys → Covers g u n xs → Covers g u n ys
+  pub covers_kept : (u n : ℕ) (xs ys : List (Option Arrival)) → Keeps xs ys → Covers g u n xs → Covers g u n ys
   covers_kept u n xs ys keeps covers s b less is = kept_reached xs ys keeps b (covers s b less is)
 
   -- the slot leads nowhere, or to a node that is reached
@@ -180,7 +180,7 @@ module _ (g : Edges) (given : ℕ → Bool) where
   same_depth xs ys u keeps known =
       ⊎_elim
       (λ yes. cond-true (given u) 0 (steps_to ys u) yes ∙ sym (cond-true (given u) 0 (steps_to xs u) yes))
-      (λ there. ap (λ (o : Option Arrival). cond (given u) 0 (steps_of o)) (keeps u there))
+      (λ there. ap (λ (o : Option Arrival). cond (given u) 0 (arrival_steps o)) (keeps u there))
       known
 
   known_kept : (xs ys : List (Option Arrival)) (u : ℕ) → Keeps xs ys → Known given xs u → Known given ys u
@@ -217,7 +217,7 @@ none_at : (k : ℕ) → arrival_at (replicate 128 None) k ≡ None
 none_at k = everywhere 128 None k
 
 pub none_steps : (k : ℕ) → steps_to (replicate 128 None) k ≡ 0
-none_steps k = ap steps_of (none_at k)
+none_steps k = ap arrival_steps (none_at k)
 
 not_some : (o : Option Arrival) (a : Arrival) → o ≡ None → o ≡ Some a → ⊥
 not_some o a none some = let z : ◌≡◌ {A = ℕ} 0 1 = cc in omega arith

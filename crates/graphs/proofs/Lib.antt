@@ -3,3 +3,4 @@ pub mod Lists
 pub mod Marking
 pub mod Paths
 pub mod Routing
+pub mod Sets

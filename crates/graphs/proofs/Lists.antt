@@ -1,8 +1,7 @@
 -- Lists: one value at every place, a front of a list in which an element is set, and marks.
-use Rattle.std.proofs.Common.{◌≡◌, ℕ, zero, suc, ◌-◌, ◌<◌, Bool, true, false, cond, List, [], ◌∷◌, length, get_or, take, set, replicate, count_by, refl, ap, ⊎_elim, le_of_suc-le-suc, not-suc-le-zero, arith}
-use Rattle.std.proofs.lemmas.List.{get_or_past, get_or-replicate, length-replicate, length-set}
-use Rattle.std.proofs.lemmas.List.Sums.{count_by-le-length, sum_by-set}
-use Rattle.std.proofs.lemmas.Bool.{cases_lt, cond-false}
+use Rattle.std.proofs.Common.{◌≡◌, ℕ, zero, suc, ◌+◌, ◌-◌, ◌<◌, ◌≤◌, Bool, true, false, cond, ◌≢◌, List, [], ◌∷◌, get_or, take, set, replicate, sym, refl, ap, subst, ⊎_elim, le_of_suc-le-suc, not-suc-le-zero, arith}
+use Rattle.std.proofs.lemmas.List.{get_or_past, get_or-replicate, length-replicate}
+use Rattle.std.proofs.lemmas.Bool.{cases_eq, cases_lt, cond-false, cond-true, cond_both}
 
 module _ {X : Type 0} where
   -- what stands at a place of a list of equal values, and past its end
@@ -19,10 +18,40 @@ module _ {X : Type 0} where
   take_of_set (suc n) (x ∷ xs) zero y h = refl
   take_of_set (suc n) (x ∷ xs) (suc i) y h = ap (λ ys. x ∷ ys) (take_of_set n xs i y (le_of_suc-le-suc h))
 
--- one more of n marks is set
-pub marked_less : (n : ℕ) (xs : List Bool) (i : ℕ) → length xs ≡ n → i < n → get_or xs i false ≡ false → n - count_by (λ b. b) (set xs i true) < n - count_by (λ b. b) xs
-marked_less n xs i long inside unset =
-    let sum = sum_by-set (λ (b : Bool). cond b 1 0) xs i true false (omega (arith, long)) in
-    let was : ◌≡◌ {A = ℕ} (cond (get_or xs i false) 1 0) 0 = cond-false (get_or xs i false) 1 0 unset in
-    let few = count_by-le-length (λ (b : Bool). b) (set xs i true) in
-    omega (arith, sum, was, few, length-set xs i true, long)
+-- how many numbers below n pass a test
+abbrev pub count_below : (ℕ → Bool) → ℕ → ℕ
+count_below f zero = 0
+count_below f (suc n) = cond (f n) 1 0 + count_below f n
+
+count_few : (f : ℕ → Bool) (n : ℕ) → count_below f n ≤ n
+count_few f zero = omega arith
+count_few f (suc n) = cond_both (f n) 1 0 (λ m. m + count_below f n ≤ suc n) (λ _. omega (arith, count_few f n)) (λ _. omega (arith, count_few f n))
+
+-- one number more passes
+module _ (f g : ℕ → Bool) (i : ℕ) (unset : f i ≡ false) (here : g i ≡ true) (others : (k : ℕ) → k ≢ i → g k ≡ f k) where
+  step_of : (ℕ → Bool) → ℕ → ℕ
+  step_of h n = cond (h n) 1 0
+
+  same_before : (n : ℕ) → n ≤ i → count_below g n ≡ count_below f n
+  unfolding step_of
+  same_before zero few = refl
+  same_before (suc n) few =
+      let same : step_of g n ≡ step_of f n = ap (λ (b : Bool). cond b 1 0) (others n (λ is. omega (arith, is, few))) in
+      omega (arith, same, same_before n (omega (arith, few)))
+
+  one_more : (n : ℕ) → i < n → count_below g n ≡ count_below f n + 1
+  unfolding step_of
+  one_more zero less = absurd (omega (arith, less))
+  one_more (suc n) less =
+      ⊎_elim
+      (λ is.
+      let set : step_of g n ≡ 1 = cond-true (g n) 1 0 (subst (λ m. g m ≡ true) (sym is) here) in
+      let was : step_of f n ≡ 0 = cond-false (f n) 1 0 (subst (λ m. f m ≡ false) (sym is) unset) in
+      omega (arith, set, was, same_before n (omega (arith, is))))
+      (λ ne.
+      let same : step_of g n ≡ step_of f n = ap (λ (b : Bool). cond b 1 0) (others n ne) in
+      omega (arith, same, one_more n (omega (arith, ne, less))))
+      (cases_eq n i)
+
+  pub marked_less : (n : ℕ) → i < n → n - count_below g n < n - count_below f n
+  marked_less n less = omega (arith, one_more n less, count_few g n)

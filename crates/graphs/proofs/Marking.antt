@@ -3,7 +3,7 @@ use Rattle.std.proofs.Common.{◌≡◌, ℕ, zero, suc, ◌+◌, ◌<◌, Bool,
 use Rattle.std.proofs.lemmas.List.{length_push}
 use Rattle.graphs.specs.declared.arrival.Arrival.{Arrival}
 use Rattle.graphs.specs.declared.route.Step.{Step}
-use Rattle.graphs.specs.Arrivals.{Traced, arrival_at, reached_at, steps_of, steps_to}
+use Rattle.graphs.specs.Arrivals.{Traced, arrival_at, reached_at, arrival_steps, steps_to}
 use Rattle.graphs.specs.Graph.{Edges, Leads, Reaches, tells}
 use Rattle.graphs.specs.Searching.{Covers, Known}
 use Rattle.graphs.proofs.Growing.{some_of, steps_reached}
@@ -25,7 +25,7 @@ module _ (g : Edges) (given : ℕ → Bool) (xs : List (Option Arrival)) where
       let here = traced.back b a is in
       let before : steps_to xs a.from + 1 ≡ a.steps = here.later (omega (arith, more)) in
       let found = some_of (arrival_at xs a.from) (steps_reached (arrival_at xs a.from) (omega (arith, before, more))) in
-      let less : found.0.steps ≡ suc k = sym (ap steps_of found.1) ∙ omega (arith, before, more) in
+      let less : found.0.steps ≡ suc k = sym (ap arrival_steps found.1) ∙ omega (arith, before, more) in
       let front = trace traced k a.from found.0 found.1 less in
       record {
         from = front.from;

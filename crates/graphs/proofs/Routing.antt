@@ -3,7 +3,7 @@ use Rattle.std.proofs.Common.{◌≡◌, ℕ, ◌+◌, ◌<◌, ◌≤◌, Bool,
 use Rattle.std.proofs.lemmas.List.{drop_all, drop-set, length-take-le}
 use Rattle.graphs.specs.declared.arrival.Arrival.{Arrival}
 use Rattle.graphs.specs.declared.route.Step.{Step}
-use Rattle.graphs.specs.Arrivals.{Traced, arrival_at, steps_of, steps_to}
+use Rattle.graphs.specs.Arrivals.{Traced, arrival_at, arrival_steps, steps_to}
 use Rattle.graphs.specs.Graph.{Edges, Leads}
 use Rattle.graphs.proofs.Lists.{take_of_set}
 
@@ -23,14 +23,14 @@ module _ (xs : List (Option Arrival)) (node size : ℕ) where
     back_none a is same g given traced = record {
       leads = subst (λ (ys : List Step). Leads g node ys node) (sym (drop_all size (take size steps) (omega (arith, length-take-le size steps (omega (arith, long, few)))))) refl;
       ends = λ none. absurd (omega (arith, (traced.back node a is).some, same, none));
-      more = λ some. ap steps_of is ∙ same;
+      more = λ some. ap arrival_steps is ∙ same;
     }
 
     pub back_more : (i at : ℕ) (a : Arrival) → i < size → arrival_at xs at ≡ Some a → Backs steps (i + 1) at → Backs (set steps i (record { slot = a.slot; to = at })) i a.from
     back_more i at a inside is back g given traced =
         let was = back g given traced in
         let here = traced.back at a is in
-        let steps_are : a.steps ≡ i + 1 = sym (ap steps_of is) ∙ was.more (omega arith) in
+        let steps_are : a.steps ≡ i + 1 = sym (ap arrival_steps is) ∙ was.more (omega arith) in
         record {
           leads = subst (λ (ys : List Step). Leads g a.from ys node) (sym (front_is i (record { slot = a.slot; to = at }) inside)) (here.edge, was.leads);
           ends = λ none. here.first (omega (arith, steps_are, none));
@@ -44,4 +44,4 @@ module _ (xs : List (Option Arrival)) (node size : ℕ) where
 
   -- a step is still to come, so the node was reached
   pub back_there : (steps : List Step) (k at : ℕ) → 0 < k → Backs steps k at → (g : Edges) (given : ℕ → Bool) → Traced g given xs → arrival_at xs at ≡ None → ⊥
-  back_there steps k at some back g given traced none = omega (arith, (back g given traced).more some, ap steps_of none)
+  back_there steps k at some back g given traced none = omega (arith, (back g given traced).more some, ap arrival_steps none)

@@ -8,12 +8,12 @@ abbrev pub arrival_at : List (Option Arrival) → ℕ → Option Arrival
 arrival_at xs k = slice_index_or xs k None
 
 -- The number of steps of an arrival, and to a node: 0 where it is not reached.
-abbrev pub steps_of : Option Arrival → ℕ
-steps_of None = 0
-steps_of (Some a) = a.steps
+abbrev pub arrival_steps : Option Arrival → ℕ
+arrival_steps None = 0
+arrival_steps (Some a) = a.steps
 
 abbrev pub steps_to : List (Option Arrival) → ℕ → ℕ
-steps_to xs k = steps_of (arrival_at xs k)
+steps_to xs k = arrival_steps (arrival_at xs k)
 
 abbrev pub reached_at : List (Option Arrival) → ℕ → Bool
 reached_at xs k = is_some (arrival_at xs k)

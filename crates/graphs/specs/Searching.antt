@@ -1,10 +1,11 @@
 -- What a search does.
-use Rattle.std.specs.Prelude.{◌≡◌, ℕ, ◌<◌, ◌≤◌, Bool, true, false, ◌⊎◌, List, length, take, is_some, Some, Decides, count_by, Option, MatchOption, slice_index_or}
+use Rattle.std.specs.Prelude.{◌≡◌, ℕ, ◌<◌, ◌≤◌, Bool, true, false, ◌⊎◌, List, length, take, is_some, Some, Decides, count_by, Option, MatchOption}
 use Rattle.graphs.specs.declared.arrival.Arrival.{Arrival}
 use Rattle.graphs.specs.declared.route.Route.{Route}
 use Rattle.graphs.specs.declared.search.Reached.{Reached}
 use Rattle.graphs.specs.Arrivals.{Traced, reached_at, arrival_at, steps_to}
 use Rattle.graphs.specs.Graph.{Edges, Leads, Reaches, tells}
+use Rattle.graphs.specs.Routes.{steps_of}
 
 -- Whether a node is marked.
 abbrev pub reached : Reached → ℕ → Bool
@@ -18,9 +19,9 @@ pub record Searched (g : Edges) (given : ℕ → Bool) (r : Reached) : Type 0 wh
 -- A path from a given node to node b, of one edge or more and at most as many as there are nodes.
 pub record Path (g : Edges) (given : ℕ → Bool) (b : ℕ) (p : Route) : Type 0 where
   pub starts : given p.start ≡ true
-  pub some : 0 < length (take p.length p.steps)
-  pub few : length (take p.length p.steps) ≤ g.nodes
-  pub leads : Leads g p.start (take p.length p.steps) b
+  pub some : 0 < length (steps_of p)
+  pub few : length (steps_of p) ≤ g.nodes
+  pub leads : Leads g p.start (steps_of p) b
 
 -- A path to each marked node, and to no other.
 abbrev pub RouteTo : Edges → (ℕ → Bool) → Reached → ℕ → Option Route → Type 0
@@ -37,11 +38,11 @@ abbrev pub Known : (ℕ → Bool) → List (Option Arrival) → ℕ → Type 0
 Known given xs k = (given k ≡ true) ⊎ (reached_at xs k ≡ true)
 
 -- A node whose slots are still to be asked, or none where those of every given and reached node were.
-abbrev pub Pending : (ℕ → Bool) → List (Option Arrival) → List Bool → ℕ → Option ℕ → Type 0
+abbrev pub Pending : (ℕ → Bool) → List (Option Arrival) → (ℕ → Bool) → ℕ → Option ℕ → Type 0
 Pending given xs expanded n answer =
     MatchOption answer
-    ((k : ℕ) → k < n → Known given xs k → slice_index_or expanded k false ≡ true)
-    (λ k. (k < n) × Known given xs k × (slice_index_or expanded k false ≡ false))
+    ((k : ℕ) → k < n → Known given xs k → expanded k ≡ true)
+    (λ k. (k < n) × Known given xs k × (expanded k ≡ false))
 
 -- The neighbours behind the first n slots of a node are reached.
 abbrev pub Covers : Edges → ℕ → ℕ → List (Option Arrival) → Type 0

@@ -7,7 +7,7 @@ use crate::graph::MAX_NODES;
 // A set of nodes.
 #[derive(Clone, Copy)]
 pub struct NodeSet {
-    members: [bool; MAX_NODES],
+    pub(crate) members: [bool; MAX_NODES],
 }
 
 impl NodeSet {
@@ -24,11 +24,7 @@ impl NodeSet {
     pub fn contains(&self, node: usize) -> bool
         ensures { result ≡ has self.now node }
     {
-        if node < MAX_NODES {
-            self.members[node]
-        } else {
-            false
-        }
+        self.members.get(node).copied().unwrap_or(false)
     }
 
     // Puts `node` into the set. A number that no graph has as a node is passed over.

@@ -1,5 +1,5 @@
 // Paths in a graph.
-ghost use Rattle.std.specs.Prelude.{◌≡◌, ◌<◌, ◌≤◌, length, take, MatchOption};
+ghost use Rattle.std.specs.Prelude.{◌≡◌, ◌<◌, ◌≤◌, length, MatchOption};
 
 use crate::graph::MAX_NODES;
 
@@ -11,6 +11,7 @@ pub struct Step {
 }
 
 // A path: the node where it starts, and its steps, at most 128.
+// An array with a length beside: the library allocates nothing, and a path can be copied.
 #[derive(Clone, Copy)]
 pub struct Route {
     pub(crate) start: usize,
@@ -20,9 +21,11 @@ pub struct Route {
 }
 
 impl Route {
+    ghost use Rattle.graphs.specs.Routes.{steps_of};
+
     // The path from `start` by `steps`, or `None` where these are more than 128.
     pub fn new(start: usize, steps: &[Step]) -> Option<Route>
-        ensures { MatchOption result (128 < length steps.now) (λ p. (p.start ≡ start) × (take p.length p.steps ≡ steps.now)) }
+        ensures { MatchOption result (128 < length steps.now) (λ p. (p.start ≡ start) × (steps_of p ≡ steps.now)) }
     {
         let length = steps.len();
         if length > MAX_NODES {
@@ -46,7 +49,7 @@ impl Route {
 
     // The steps of the path.
     pub fn steps(&self) -> &[Step]
-        ensures { result.now ≡ take self.now.length self.now.steps }
+        ensures { result.now ≡ steps_of self.now }
     {
         &self.steps[0..self.length]
     }

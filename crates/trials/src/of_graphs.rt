@@ -1,4 +1,5 @@
 // Graphs and charts: the graphs of a small table, the search, the finder, and how often they ask.
+ghost use Rattle.std.proofs.Common.{lit≤};
 ghost use Rattle.std.specs.Prelude.{◌+◌, ◌-◌, if◌then◌else◌, Some, None, nat_eq, nat_lt};
 
 use charts::backward::Backward;
@@ -136,6 +137,8 @@ struct Line {
 impl Graph for Line {
     ghost meaning = { λ g. record { nodes = 128; slots = 4; neighbour = λ a s. (if nat_eq s 3 then (if g.up then (if nat_lt (a + 1) 128 then Some (a + 1) else None) else (if nat_lt 0 a then Some (a - 1) else None)) else None) } };
 
+    ghost bounded = { λ _. record { some = lit≤ tt; few = lit≤ tt } };
+
     fn nodes(&self) -> usize {
         128
     }
@@ -167,6 +170,8 @@ struct Counting<'g, G> {
 
 impl<'g, G: Graph> Graph for Counting<'g, G> {
     ghost meaning = { λ c. G.Graph.meaning c.graph.now };
+
+    ghost bounded = { λ c. G.Graph.bounded c.graph.now };
 
     fn nodes(&self) -> usize {
         self.graph.nodes()

@@ -17,10 +17,10 @@ impl Reached {
     {
         let nodes = graph.nodes();
         let mut reached = Reached::none();
-        let mut expanded = [false; MAX_NODES];
+        let mut expanded = NodeSet::empty();
         while let Some(node) = reached.pending(starts, &expanded, nodes) {
             reached.expand(graph, starts, node);
-            expanded[node] = true;
+            expanded.insert(node);
         }
         reached
     }
@@ -35,24 +35,18 @@ impl Reached {
     }
 
     // A node below `nodes` that is given or reached, and whose slots were not yet asked.
-    fn pending(&self, starts: &NodeSet, expanded: &[bool; MAX_NODES], nodes: usize) -> Option<usize>
-        requires { nodes ≤ 128 }
-        ensures { Pending (has starts.now) self.now.arrivals expanded.now nodes result }
+    fn pending(&self, starts: &NodeSet, expanded: &NodeSet, nodes: usize) -> Option<usize>
+        ensures { Pending (has starts.now) self.now.arrivals (has expanded.now) nodes result }
     {
-        for node in 0..nodes {
-            let known = starts.contains(node) || self.arrivals[node].is_some();
-            if known && !expanded[node] {
-                return Some(node);
-            }
-        }
-        None
+        (0..nodes).find(|node| {
+            let known = starts.contains(*node) || self.contains(*node);
+            known && !expanded.contains(*node)
+        })
     }
 
     // Marks the neighbours of `node`, which is given or reached.
     fn expand<G: Graph>(&mut self, graph: &G, starts: &NodeSet, node: usize)
-        requires inside { node < 128 }
         requires known { Known (has starts.now) self.old.arrivals node }
-        requires few { (G.meaning graph.now).nodes ≤ 128 }
         requires grown { Grown (G.meaning graph.now) (has starts.now) self.old.arrivals }
         ensures { Expanded (G.meaning graph.now) (has starts.now) node self.old.arrivals self.new.arrivals }
     {
@@ -77,23 +71,18 @@ impl Reached {
 
     // Notes an arrival at `node`, if it is the first.
     fn note(&mut self, node: usize, arrival: Arrival)
-        requires inside { node < 128 }
-        requires few { reached_at self.old.arrivals node ≡ false → arrival.steps ≤ 128 }
+        requires { reached_at self.old.arrivals node ≡ false → arrival.steps ≤ 128 }
         ensures { self.new.arrivals ≡ noted self.old.arrivals node arrival }
     {
-        if !self.contains(node) {
+        if node < MAX_NODES && self.arrivals[node].is_none() {
             self.arrivals[node] = Some(arrival);
         }
     }
 
     // How many steps lead to `node`, and 0 where it is not reached.
     fn steps_to(&self, node: usize) -> usize
-        requires { node < 128 }
         ensures { result ≡ steps_to self.now.arrivals node }
     {
-        match self.arrivals[node] {
-            Some(arrival) => arrival.steps,
-            None => 0,
-        }
+        self.arrival(node).map_or(0, |arrival| arrival.steps)
     }
 }

@@ -23,24 +23,16 @@ impl Reached {
     pub fn nodes(&self) -> NodeSet
         ensures { (k : ℕ) → has result k ≡ reached self.now k }
     {
-        let mut nodes = NodeSet::empty();
-        for node in 0..MAX_NODES {
-            if self.contains(node) {
-                nodes.insert(node);
-            }
+        NodeSet {
+            members: self.arrivals.map(|arrival| arrival.is_some()),
         }
-        nodes
     }
 
     // How the search came to `node`, or `None` where it did not.
-    fn arrival(&self, node: usize) -> Option<Arrival>
+    pub(super) fn arrival(&self, node: usize) -> Option<Arrival>
         ensures { result ≡ arrival_at self.now.arrivals node }
     {
-        if node < MAX_NODES {
-            self.arrivals[node]
-        } else {
-            None
-        }
+        self.arrivals.get(node).copied().flatten()
     }
 
     // A path to `node` from one of the given nodes, of one edge or more and at most as many as there are nodes,
@@ -52,6 +44,7 @@ impl Reached {
         let length = last.steps;
         let mut steps = [Step { slot: 0, to: 0 }; MAX_NODES];
         let mut at = node;
+        // By index: of what a reversed `iter_mut` has written, no invariant can speak.
         for i in (0..length).rev() {
             let arrival = self.arrival(at)?;
             steps[i] = Step {
