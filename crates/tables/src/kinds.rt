@@ -275,11 +275,11 @@ static KINDS: [Kind; 256] = [
     Kind::Other,
 ];
 
-impl Kind {
-    // The kind of `byte`.
-    pub fn of(byte: u8) -> Kind
-        ensures { result ≡ kind_of byte }
-    {
+// The kind of a byte.
+impl From<u8> for Kind {
+    ghost from_gives = { λ byte kind. kind ≡ kind_of byte };
+
+    fn from(byte: u8) -> Kind {
         KINDS[byte as usize]
     }
 }

@@ -7,6 +7,8 @@ use crate::charted::Charted;
 use crate::kinds::Kind;
 use crate::table::RuleTable;
 
+// States are numbers, as in every rule table, and so are rules.
+
 // The number of states.
 const STATES: usize = 11;
 
@@ -64,7 +66,7 @@ impl RuleTable for ShareTable {
 
     fn next(&self, state: usize, byte: u8) -> Option<usize> {
         if state < STATES {
-            Some(step(state, Kind::of(byte)))
+            Some(step(state, Kind::from(byte)))
         } else {
             None
         }
