@@ -17,17 +17,18 @@ sum_replicate f (suc n) x = sum_by-cons f x (replicate n x) ∙ omega (arith, su
 
 pub fresh_sound : (g : Edges) (s : Search) → Fresh s → g.nodes ≤ 128 → SoundIn g s
 fresh_sound g s h few = record {
-  mark = λ v. subst (Right g s.marks s.trail s.depth v) (sym (unmarked v)) tt;
-  place = λ i less. absurd (omega (arith, h.depth));
-  edge = λ i less. absurd (omega (arith, h.depth));
+  mark = λ v. subst (Right g s.marks s.trail.items v) (sym (unmarked v)) tt;
+  place = λ i less. absurd (omega (arith, none));
+  edge = λ i less. absurd (omega (arith, none));
   low = λ v. omega (arith, ap rank (unmarked v));
-  counted = omega (arith, h.depth, count is_new, count is_done);
+  counted = omega (arith, none, count is_new, count is_done);
   few = few;
   all_marks = ap length h.marks ∙ length-replicate 128 New;
-  all_trail = h.all_trail;
-  all_told = h.all_told;
 }
   where
+    none : length s.trail.items ≡ 0
+    none = ap length h.trail
+
     unmarked : (v : ℕ) → mark_of s.marks v ≡ New
     unmarked v = ap (λ l. mark_of l v) h.marks ∙ everywhere 128 New v
 

@@ -1,14 +1,11 @@
 -- What the finder finds: a cycle, or a longest path where there is no cycle.
-use Rattle.std.specs.Prelude.{ℕ, ◌<◌, ◌≤◌, List, length, take}
+use Rattle.std.specs.Prelude.{ℕ, ◌<◌, ◌≤◌, List, length}
 use Rattle.graphs.specs.Graph.{Edges, Leads}
 use Rattle.graphs.specs.declared.route.Route.{Route}
 use Rattle.graphs.specs.declared.route.Step.{Step}
+use Rattle.graphs.specs.Routes.{steps_of}
 use Rattle.cycles.specs.declared.found.Found.{Found}
 use Rattle.cycles.specs.declared.found.Found.TheVariants.{Cycle, Longest}
-
--- The steps of a path.
-abbrev pub steps_of : Route → List Step
-steps_of p = take p.length p.steps
 
 -- A cycle: one or more edges, at most as many as there are nodes, that lead from a node back to it.
 pub record IsCycle (g : Edges) (p : Route) : Type 0 where

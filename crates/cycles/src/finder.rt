@@ -1,11 +1,12 @@
 // The finder: follows a path as long as it leads to new nodes, and goes back from a node whose slots are all asked.
 ghost use Rattle.cycles.specs.Finding.{Finds, IsCycle, IsLongest};
-ghost use Rattle.cycles.specs.Search.{Complete, Explored, Knows, Scanned, SoundIn, Turned, mark_of, rank, told_of};
+ghost use Rattle.cycles.specs.Search.{Complete, Explored, Knows, Scanned, Sound, SoundIn, Turned, height_of, mark_of, rank, with_top};
 ghost use Rattle.cycles.specs.declared.search.Mark.TheVariants.{New};
-ghost use Rattle.std.specs.Prelude.{◌≡◌, ℕ, ◌<◌, ◌≤◌, MatchOption};
+ghost use Rattle.std.specs.Prelude.{◌≡◌, ℕ, ◌<◌, ◌≤◌, [], MatchOption};
 
 use crate::found::Found;
-use crate::search::{Mark, NO_STEP, Search, Told};
+use crate::search::{Followed, Mark, Search, Told};
+use arrayvec::ArrayVec;
 use graphs::graph::{Graph, MAX_NODES};
 use graphs::route::{Route, Step};
 
@@ -23,21 +24,17 @@ enum Next {
 fn scan<G: Graph>(graph: &G, search: &Search, node: usize, known: Told) -> Next
     requires known { Knows (G.meaning graph.now) search.now.marks node known }
     requires low { (v : ℕ) → rank (mark_of search.now.marks v) ≤ 128 }
-    requires few { (G.meaning graph.now).nodes ≤ 128 }
     ensures { Scanned (G.meaning graph.now) search.now.marks node result }
 {
     let slots = graph.slots();
     let mut told = known;
-    while told.slot < slots {
-        match graph.neighbour(node, told.slot) {
+    for slot in known.slot..slots {
+        match graph.neighbour(node, slot) {
             None => told = told.skip(),
             Some(to) => match search.marks[to] {
                 Mark::New => return Next::On { told, to },
                 Mark::Active { place } => {
-                    let step = Step {
-                        slot: told.slot,
-                        to,
-                    };
+                    let step = Step { slot, to };
                     return Next::Back { step, place };
                 }
                 Mark::Done { told: beyond } => told = told.raise(to, beyond.height),
@@ -47,42 +44,44 @@ fn scan<G: Graph>(graph: &G, search: &Search, node: usize, known: Told) -> Next
     Next::Nowhere { told }
 }
 
-// Goes on from the last node of the trail to a new one, or back to the one before. Answers a cycle, if there is one.
-fn turn<G: Graph>(graph: &G, search: &mut Search) -> Option<Route>
-    requires sound { SoundIn (G.meaning graph.now) search.old }
-    requires some { 0 < search.old.depth }
-    ensures { MatchOption result (Turned (G.meaning graph.now) search.old search.new) (IsCycle (G.meaning graph.now)) }
+// Goes on from `top`, taken from the end of the trail, to a new node, or is done with it. Answers a cycle, if there
+// is one.
+fn turn<G: Graph>(graph: &G, search: &mut Search, top: Followed) -> Option<Route>
+    requires { SoundIn (G.meaning graph.now) (with_top search.old top) }
+    ensures { MatchOption result (Turned (G.meaning graph.now) (with_top search.old top) search.new) (IsCycle (G.meaning graph.now)) }
 {
-    let top = search.depth - 1;
-    let node = search.trail[top].to;
-    match scan(graph, search, node, search.told[top]) {
+    let node = top.by.to;
+    match scan(graph, search, node, top.told) {
         Next::Nowhere { told } => {
-            search.finish(node, told);
+            search.marks[node] = Mark::Done { told };
             None
         }
         Next::On { told, to } => {
-            search.told[top] = told;
+            search.trail.push(Followed { told, ..top });
             search.push(Step {
                 slot: told.slot,
                 to,
             });
             None
         }
-        Next::Back { step, place } => Some(search.cycle(node, step, place)),
+        Next::Back { step, place } => {
+            search.trail.push(top);
+            Some(search.cycle(node, step, place))
+        }
     }
 }
 
 // Follows every path from `root`, a new node. Answers a cycle, if there is one.
 fn explore<G: Graph>(graph: &G, search: &mut Search, root: usize) -> Option<Route>
     requires sound { SoundIn (G.meaning graph.now) search.old }
-    requires none { search.old.depth ≡ 0 }
+    requires none { search.old.trail.items ≡ [] }
     requires root { root < (G.meaning graph.now).nodes }
     requires reached { mark_of search.old.marks root ≡ New }
     ensures { MatchOption result (Explored (G.meaning graph.now) root search.old search.new) (IsCycle (G.meaning graph.now)) }
 {
     search.push(Step { slot: 0, to: root });
-    while search.depth > 0 {
-        if let Some(cycle) = turn(graph, search) {
+    while let Some(top) = search.trail.pop() {
+        if let Some(cycle) = turn(graph, search, top) {
             return Some(cycle);
         }
     }
@@ -92,11 +91,11 @@ fn explore<G: Graph>(graph: &G, search: &mut Search, root: usize) -> Option<Rout
 // A node from which the longest path is no shorter than from any other.
 fn tallest<G: Graph>(graph: &G, search: &Search) -> usize
     ensures inside { result < (G.meaning graph.now).nodes }
-    ensures most { (v : ℕ) → v < (G.meaning graph.now).nodes → (told_of (mark_of search.now.marks v)).height ≤ (told_of (mark_of search.now.marks result)).height }
+    ensures most { (v : ℕ) → v < (G.meaning graph.now).nodes → height_of (mark_of search.now.marks v) ≤ height_of (mark_of search.now.marks result) }
 {
     let mut best = 0;
     for node in 1..graph.nodes() {
-        if search.known(best).height < search.known(node).height {
+        if search.height(best) < search.height(node) {
             best = node;
         }
     }
@@ -109,15 +108,13 @@ fn longest<G: Graph>(graph: &G, search: &Search) -> Route
     ensures { IsLongest (G.meaning graph.now) result }
 {
     let start = tallest(graph, search);
-    let height = search.known(start).height;
-    let mut steps = [NO_STEP; MAX_NODES];
+    let mut steps = ArrayVec::<Step, MAX_NODES>::new();
     let mut node = start;
-    for i in 0..height {
-        let step = search.known(node).first;
-        steps[i] = step;
+    while let Some(step) = search.first(node) {
+        steps.push(step);
         node = step.to;
     }
-    Route::new(start, &steps[0..height]).unwrap()
+    Route::new(start, steps.as_slice()).unwrap()
 }
 
 // A cycle of the graph, or a longest path, where there is no cycle. Each slot of a node is asked at most twice.

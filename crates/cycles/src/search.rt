@@ -1,18 +1,19 @@
 // The notes of the search: what is known of each node, and the trail of nodes that are followed.
-ghost use Rattle.cycles.specs.Finding.{steps_of};
-ghost use Rattle.cycles.specs.Search.{Fresh, finished, mark_of, pushed, raised, skipped, told_of, turned};
-ghost use Rattle.std.specs.Prelude.{◌≡◌, ◌+◌, ◌^◌, ◌<◌, ◌≤◌};
+ghost use Rattle.graphs.specs.Routes.{steps_of};
+ghost use Rattle.cycles.specs.Search.{Fresh, first_of, height_of, known_of, mark_of, pushed, raised, skipped, turned};
+ghost use Rattle.std.specs.Prelude.{◌≡◌, ◌+◌, ◌^◌, ◌<◌, length};
 
+use arrayvec::ArrayVec;
 use graphs::graph::MAX_NODES;
 use graphs::route::{Route, Step};
 
 // What the slots of a node told that were asked, those before `slot`: the longest path from the node that begins
-// with one of them has `height` edges. It begins with the step `first`, if it has any.
-#[derive(Clone, Copy)]
+// with one of them has `height` edges, and the step `first` begins it, if it has any.
+#[derive(Clone, Copy, Default)]
 pub(crate) struct Told {
     pub(crate) slot: usize,
     pub(crate) height: usize,
-    pub(crate) first: Step,
+    pub(crate) first: Option<Step>,
 }
 
 // How far the search is at a node.
@@ -26,28 +27,22 @@ pub(crate) enum Mark {
     Done { told: Told },
 }
 
+// A node of the trail: the step that led to it, and what its slots told. Of the first, no step is taken: only its node
+// counts.
+#[derive(Clone, Copy, Default)]
+pub(crate) struct Followed {
+    pub(crate) by: Step,
+    pub(crate) told: Told,
+}
+
 // The search.
 #[derive(Drop)]
 pub(crate) struct Search {
     // The mark of each node.
     pub(crate) marks: [Mark; MAX_NODES],
-    // The nodes that are followed, each with the slot that led to it. Of the first, only the node counts.
-    pub(crate) trail: [Step; MAX_NODES],
-    // What the slots of each node of the trail told.
-    pub(crate) told: [Told; MAX_NODES],
-    // How many nodes the trail has.
-    pub(crate) depth: usize,
+    // The nodes that are followed.
+    pub(crate) trail: ArrayVec<Followed, MAX_NODES>,
 }
-
-// A step that no path has.
-pub(crate) const NO_STEP: Step = Step { slot: 0, to: 0 };
-
-// What is told by no slot.
-const UNASKED: Told = Told {
-    slot: 0,
-    height: 0,
-    first: NO_STEP,
-};
 
 impl Told {
     // What is told with the next slot too, which leads nowhere.
@@ -57,8 +52,7 @@ impl Told {
     {
         Told {
             slot: self.slot + 1,
-            height: self.height,
-            first: self.first,
+            ..self
         }
     }
 
@@ -75,10 +69,10 @@ impl Told {
         Told {
             slot: self.slot + 1,
             height: height + 1,
-            first: Step {
+            first: Some(Step {
                 slot: self.slot,
                 to,
-            },
+            }),
         }
     }
 }
@@ -90,55 +84,60 @@ impl Search {
     {
         Search {
             marks: [Mark::New; MAX_NODES],
-            trail: [NO_STEP; MAX_NODES],
-            told: [UNASKED; MAX_NODES],
-            depth: 0,
+            trail: ArrayVec::new(),
         }
     }
 
     // What the slots of a node told, if it is done.
-    pub(crate) fn known(&self, node: usize) -> Told
-        requires { node < 128 }
-        ensures { result ≡ told_of (mark_of self.now.marks node) }
+    pub(crate) fn known(&self, node: usize) -> Option<Told>
+        ensures { result ≡ known_of (mark_of self.now.marks node) }
     {
-        match self.marks[node] {
-            Mark::Done { told } => told,
-            _ => UNASKED,
+        match self.marks.get(node) {
+            Some(Mark::Done { told }) => Some(*told),
+            _ => None,
         }
+    }
+
+    // How many edges the longest path from a node has that is done, and else 0.
+    pub(crate) fn height(&self, node: usize) -> usize
+        ensures { result ≡ height_of (mark_of self.now.marks node) }
+    {
+        self.known(node).map_or(0, |told| told.height)
+    }
+
+    // The step that begins a longest path from a node that is done, if the path has an edge.
+    pub(crate) fn first(&self, node: usize) -> Option<Step>
+        ensures { result ≡ first_of (mark_of self.now.marks node) }
+    {
+        self.known(node)?.first
     }
 
     // Goes on to the new node that a step leads to.
     pub(crate) fn push(&mut self, step: Step)
         requires node { step.to < 128 }
-        requires room { self.old.depth < 128 }
+        requires room { length self.old.trail.items < 128 }
         ensures { self.new ≡ pushed self.old step }
     {
-        let place = self.depth;
+        let place = self.trail.len();
         self.marks[step.to] = Mark::Active { place };
-        self.trail[place] = step;
-        self.told[place] = UNASKED;
-        self.depth = place + 1;
-    }
-
-    // Is done with the last node of the trail, whose slots told `told`, and goes back to the one before.
-    pub(crate) fn finish(&mut self, node: usize, told: Told)
-        requires node { node < 128 }
-        requires some { 0 < self.old.depth }
-        ensures { self.new ≡ finished self.old node told }
-    {
-        self.marks[node] = Mark::Done { told };
-        self.depth -= 1;
+        self.trail.push(Followed {
+            by: step,
+            told: Told::default(),
+        });
     }
 
     // The cycle from the last node of the trail, `node`, by `step` to the node at `place` of the trail, and along the
     // trail back to the last.
-    pub(crate) fn cycle(&mut self, node: usize, step: Step, place: usize) -> Route
-        requires place { place < self.old.depth }
-        requires depth { self.old.depth ≤ 128 }
+    pub(crate) fn cycle(&self, node: usize, step: Step, place: usize) -> Route
+        requires { place < length self.now.trail.items }
         ensures start { result.start ≡ node }
-        ensures steps { steps_of result ≡ turned self.old step place }
+        ensures steps { steps_of result ≡ turned self.now.trail.items step place }
     {
-        self.trail[place] = step;
-        Route::new(node, &self.trail[place..self.depth]).unwrap()
+        let mut steps = ArrayVec::<Step, MAX_NODES>::new();
+        steps.push(step);
+        for followed in &self.trail.as_slice()[place + 1..] {
+            steps.push(followed.by);
+        }
+        Route::new(node, steps.as_slice()).unwrap()
     }
 }

@@ -7,7 +7,8 @@ use Rattle.graphs.specs.declared.arrival.Arrival.{Arrival}
 use Rattle.graphs.specs.Arrivals.{Arrived, arrival_at, noted, reached_at, arrival_steps, steps_to}
 use Rattle.graphs.specs.Graph.{Edges, tells}
 use Rattle.graphs.specs.Searching.{Covers, Grown, Keeps, Known}
-use Rattle.graphs.proofs.Lists.{everywhere, take_of_set}
+use Rattle.graphs.proofs.Lists.{everywhere}
+use Rattle.std.proofs.Math.Seq.{take-set-lt}
 
 -- a node that takes steps is reached
 pub steps_reached : (o : Option Arrival) → 1 ≤ arrival_steps o → is_some o ≡ true
@@ -72,7 +73,7 @@ module _ (g : Edges) (given : ℕ → Bool) where
         let front = take g.nodes xs in
         let sum = sum_by-set count front v (Some newly) None (omega (arith, length-take g.nodes xs, long)) in
         let was : count (get_or front v None) ≡ 0 = ap count (get_or-take g.nodes xs v None inside) ∙ cond-false _ 1 0 new in
-        ap (count_by is_some) (take_of_set g.nodes xs v (Some newly) inside) ∙ omega (arith, sum, was)
+        ap (count_by is_some) (take-set-lt g.nodes xs v (Some newly) inside) ∙ omega (arith, sum, was)
 
     steps_few : steps ≤ count_by is_some (take g.nodes xs)
     unfolding steps

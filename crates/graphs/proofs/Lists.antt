@@ -1,5 +1,5 @@
--- Lists: one value at every place, a front of a list in which an element is set, and marks.
-use Rattle.std.proofs.Common.{◌≡◌, ℕ, zero, suc, ◌+◌, ◌-◌, ◌<◌, ◌≤◌, Bool, true, false, cond, ◌≢◌, List, [], ◌∷◌, get_or, take, set, replicate, sym, refl, ap, subst, ⊎_elim, le_of_suc-le-suc, not-suc-le-zero, arith}
+-- Lists of one value at every place, and how many numbers pass a test.
+use Rattle.std.proofs.Common.{◌≡◌, ℕ, zero, suc, ◌+◌, ◌-◌, ◌<◌, ◌≤◌, Bool, true, false, cond, ◌≢◌, get_or, replicate, sym, refl, ap, subst, ⊎_elim, arith}
 use Rattle.std.proofs.lemmas.List.{get_or_past, get_or-replicate, length-replicate}
 use Rattle.std.proofs.lemmas.Bool.{cases_eq, cases_lt, cond-false, cond-true, cond_both}
 
@@ -11,12 +11,6 @@ module _ {X : Type 0} where
       (λ less. get_or-replicate n k x x less)
       (λ more. get_or_past (replicate n x) k x (omega (arith, length-replicate n x)))
       (cases_lt k n)
-
-  pub take_of_set : (n : ℕ) (xs : List X) (i : ℕ) (y : X) → i < n → take n (set xs i y) ≡ set (take n xs) i y
-  take_of_set zero xs i y h = absurd (not-suc-le-zero h)
-  take_of_set (suc n) [] i y h = refl
-  take_of_set (suc n) (x ∷ xs) zero y h = refl
-  take_of_set (suc n) (x ∷ xs) (suc i) y h = ap (λ ys. x ∷ ys) (take_of_set n xs i y (le_of_suc-le-suc h))
 
 -- how many numbers below n pass a test
 abbrev pub count_below : (ℕ → Bool) → ℕ → ℕ

@@ -5,7 +5,7 @@ use Rattle.graphs.specs.declared.arrival.Arrival.{Arrival}
 use Rattle.graphs.specs.declared.route.Step.{Step}
 use Rattle.graphs.specs.Arrivals.{Traced, arrival_at, arrival_steps, steps_to}
 use Rattle.graphs.specs.Graph.{Edges, Leads}
-use Rattle.graphs.proofs.Lists.{take_of_set}
+use Rattle.std.proofs.Math.Seq.{take-set-lt}
 
 module _ (xs : List (Option Arrival)) (node size : ℕ) where
   -- the steps from place k on lead from node at to the end, and k steps lead to that node
@@ -39,7 +39,7 @@ module _ (xs : List (Option Arrival)) (node size : ℕ) where
       where
         front_is : (i : ℕ) (x : Step) → i < size → drop i (take size (set steps i x)) ≡ x ∷ drop (i + 1) (take size steps)
         front_is i x inside =
-            ap (drop i) (take_of_set size steps i x inside)
+            ap (drop i) (take-set-lt size steps i x inside)
             ∙ drop-set (take size steps) i x (omega (arith, inside, length-take-le size steps (omega (arith, long, few))))
 
   -- a step is still to come, so the node was reached

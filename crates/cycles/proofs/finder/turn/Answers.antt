@@ -1,26 +1,33 @@
-use Rattle.std.proofs.Common.{sym, subst, arith}
-use Rattle.cycles.specs.Search.{Turned}
-use Rattle.cycles.proofs.Turns.{finished_turn, onward_turn, onward_room, closed}
+use Rattle.std.proofs.Common.{◌<◌, List, rules, sym, ap, ◌∙◌, subst, arith}
+use Rattle.graphs.specs.declared.route.Step.{Step}
+use Rattle.cycles.specs.declared.search.Followed.{Followed}
+use Rattle.cycles.specs.declared.search.Search.{Search}
+use Rattle.cycles.specs.Search.{Turned, pushed, turned, with_top}
+use Rattle.cycles.proofs.Turning.{last}
+use Rattle.cycles.proofs.Turns.{finished_turn, onward_turn, closed}
 use Rattle.cycles.proofs.finder.turn.Goals as goal
 
-pub push-requires : goal.push-requires
-push-requires g c =
-    let told = c.in-On.ensures in
-    record {
-      node = omega (arith, told.1, c.requires.sound.few);
-      room = onward_room _ _ c.requires.sound c.requires.some c.in-On.told c.in-On.to told;
-    }
+pub scan-requires-clause-known : goal.scan-requires-clause-known
+scan-requires-clause-known g c = (last _ _ _ _ c.requires).knows
+
+pub bounds-search-node : goal.bounds-search-node
+bounds-search-node g c = omega (arith, (last _ _ _ _ c.requires).inside, c.requires.few)
+
+pub offset_bounds-search-node : goal.offset_bounds-search-node
+offset_bounds-search-node g c = let few : c.args.top.by.to < 128 = omega (arith, (last _ _ _ _ c.requires).inside, c.requires.few) in search rules
 
 pub returns-in-Nowhere : goal.returns-in-Nowhere
-returns-in-Nowhere g c =
-    subst (Turned _ c.args.search.now) (sym c.finish.ensures)
-    (finished_turn _ _ c.requires.sound c.requires.some c.in-Nowhere.told c.in-Nowhere.ensures)
+returns-in-Nowhere g c = finished_turn _ _ _ c.requires c.in-Nowhere.told c.in-Nowhere.ensures
 
 pub returns-in-On : goal.returns-in-On
 returns-in-On g c =
-    subst (Turned _ c.args.search.now) (sym c.push.ensures)
-    (onward_turn _ _ c.requires.sound c.requires.some c.in-On.told c.in-On.to c.in-On.ensures)
+    let edges = g.G.Graph.meaning c.args.graph.now in
+    let onward : Step = record { slot = c.in-On.told.slot; to = c.in-On.to } in
+    subst (λ (s : Search). Turned edges (with_top c.args.search.now c.args.top) s)
+    (sym (c.push-in-On.ensures ∙ ap (λ (xs : List Followed). pushed (record { marks = c.args.search.now.marks; trail = record { items = xs } }) onward) c.push.ensures.items))
+    (onward_turn _ _ _ c.requires c.in-On.told c.in-On.to c.in-On.ensures)
 
 pub returns-in-Back : goal.returns-in-Back
 returns-in-Back g c =
-    closed _ _ c.requires.sound c.requires.some c.in-Back.step c.in-Back.place c.in-Back.ensures c.cycle.result c.cycle.ensures.start c.cycle.ensures.steps
+    closed _ _ _ c.requires c.in-Back.step c.in-Back.place c.in-Back.ensures c.cycle.result c.cycle.ensures.start
+    (c.cycle.ensures.steps ∙ ap (λ (xs : List Followed). turned xs c.in-Back.step c.in-Back.place) c.push-in-Back.ensures.items)

@@ -1,9 +1,9 @@
-use Rattle.std.proofs.Common.{◌<◌, List, Option, sym, ◌∙◌, subst, ⊎_elim, arith}
-use Rattle.std.proofs.lemmas.Bool.{both_ways, cases_eq}
+use Rattle.std.proofs.Common.{◌<◌, List, Option, sym, subst, arith}
+use Rattle.std.proofs.lemmas.Bool.{both_ways}
 use Rattle.graphs.specs.declared.arrival.Arrival.{Arrival}
 use Rattle.graphs.specs.Nodes.{has}
-use Rattle.graphs.specs.Searching.{Covers, Grown}
-use Rattle.graphs.proofs.Growing.{covers_kept, grown_none}
+use Rattle.graphs.specs.Searching.{Grown}
+use Rattle.graphs.proofs.Growing.{grown_none}
 use Rattle.graphs.proofs.Lists.{marked_less}
 use Rattle.graphs.proofs.Marking.{marks_right}
 use Rattle.graphs.proofs.Sets.{added, kept}
@@ -25,19 +25,6 @@ loop-node-smaller g c =
     let node = c.in-Some.node in
     let inside : node < 128 = omega (arith, due.0, c.nodes-nodes.ensures.few) in
     marked_less (has before) (has after) node due.2 (added before node after c.insert.ensures inside) (kept before node after c.insert.ensures) 128 inside
-
-pub loop-node-preserved : goal.loop-node-preserved
-loop-node-preserved g c =
-    let edges = g.G.Graph.meaning c.args.graph.now in
-    let before = c.loop-node.expanded in
-    let node = c.in-Some.node in
-    let asked = c.expand.ensures in (
-      asked.grown,
-      λ a there. ⊎_elim
-          (λ same. subst (λ n. Covers edges n edges.slots c.expand.new.self.arrivals) (sym same) asked.covers)
-          (λ ne. covers_kept edges (has c.args.starts.now) a edges.slots c.loop-node.reached.arrivals c.expand.new.self.arrivals asked.keeps (c.loop-node.invariant.1 a (sym (kept before node c.insert.new.self c.insert.ensures a ne) ∙ there)))
-          (cases_eq a node),
-    )
 
 pub returns : goal.returns
 returns g c =
