@@ -1,2 +1,1 @@
-pub mod Collecting
 pub mod Opening

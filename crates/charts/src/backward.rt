@@ -7,6 +7,8 @@ use crate::slots::{BYTES, byte_of};
 use graphs::graph::Graph;
 use tables::table::RuleTable;
 
+// A type of its own beside the forward graph: they share a reference to a table, and tell nothing alike but its states.
+
 // The graph whose nodes are the states of a table and whose edges go against its steps: slot 256 · p + b leads
 // from q to p if the next state of p on byte b is q.
 #[derive(Drop)]

@@ -13,6 +13,7 @@ pub struct Lexeme {
 }
 
 // How munch ended: with every byte in a token, or at a place where no token begins.
+// No Option or Result: both are ends that munch has, and neither is the other's failure.
 #[derive(Clone, Copy, PartialEq, Eq, Debug)]
 pub enum Ending {
     Done,
@@ -52,6 +53,7 @@ pub fn munch<T: RuleTable>(table: &T, bytes: &[u8], list: &mut [Lexeme]) -> Opti
     }
     let mut count = 0;
     let mut place = 0;
+    // Not a `for`: each turn goes on by the bytes of its token, and the turns end with the bytes, not with the list.
     while place < bytes.len() {
         let Some((length, rule)) = longest(table, &bytes[place..]) else {
             return Some(Munched {

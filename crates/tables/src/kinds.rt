@@ -15,7 +15,7 @@ pub enum Kind {
     Other,
 }
 
-// The kind of each byte, at its place.
+// The kind of each byte, at its place: a written table, entry by entry, which the rule is proved of.
 static KINDS: [Kind; 256] = [
     Kind::Other,
     Kind::Other,

@@ -4,7 +4,7 @@ ghost use Rattle.std.specs.Prelude.{◌≡◌};
 
 // A rule table: an automaton with 1 to 128 states, numbered from 0. State 0 is the start.
 // Every state has one next state for each byte, and a label: 0 where it does not accept,
-// and otherwise the rule that it accepts.
+// and otherwise the rule that it accepts. A label is a byte and no Option, as in the images that tables come in.
 // Asking changes nothing, and the answers don't vary: they are those of the table's meaning.
 pub trait RuleTable {
     ghost meaning: { Self → Table };

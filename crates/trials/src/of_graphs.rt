@@ -201,11 +201,11 @@ fn counters(heap: Global, count: usize) -> Result<Vec<Cell<u8>>, AllocError> {
 
 // The most that was counted.
 fn most(counters: &[Cell<u8>]) -> u8 {
-    let mut most = 0;
-    for counter in counters {
-        most = counter.get().max(most);
-    }
-    most
+    counters
+        .iter()
+        .map(|counter| counter.get())
+        .max()
+        .unwrap_or(0)
 }
 
 #[test]
@@ -244,9 +244,9 @@ fn line_image(up: bool) -> [u8; 518] {
     image[259] = 128;
     image[if up { 387 } else { 260 }] = 1;
     image[389] = 128;
-    for state in 0..128u8 {
-        image[390 + state as usize] = if up {
-            (state + 1).min(127)
+    for (step, state) in image[390..].iter_mut().zip(0..128u8) {
+        *step = if up {
+            state.saturating_add(1).min(127)
         } else {
             state.saturating_sub(1)
         };

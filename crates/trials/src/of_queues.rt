@@ -62,6 +62,7 @@ fn holds_nothing<Q: Queue<u8>>(queue: &mut Q, letter: char) -> Result<(), Fail> 
     check_eq(queue.element(0), None)
 }
 
+// A test for each kind: how a queue is made is of no trait.
 #[test]
 fn rings(rt: HostRuntime) -> Result<(), Fail> {
     assert_eq!(rt; <Ring<'_, u8> as Queue<u8>>::LETTER, 'R');

@@ -9,6 +9,9 @@ use crate::graph::{Graph, MAX_NODES};
 use crate::nodes::NodeSet;
 use crate::search::Reached;
 
+// The graph and the given nodes go along as parameters: as fields of what changes, each contract would have to say that
+// they stay.
+
 impl Reached {
     // Marks the nodes at the end of a path of one or more edges of `graph` from the nodes of `starts`.
     // Each slot of a node is asked at most once.

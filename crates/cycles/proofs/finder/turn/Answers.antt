@@ -1,4 +1,4 @@
-use Rattle.std.proofs.Common.{◌<◌, List, rules, sym, ap, ◌∙◌, subst, arith}
+use Rattle.std.proofs.Common.{List, sym, ap, ◌∙◌, subst}
 use Rattle.graphs.specs.declared.route.Step.{Step}
 use Rattle.cycles.specs.declared.search.Followed.{Followed}
 use Rattle.cycles.specs.declared.search.Search.{Search}
@@ -9,12 +9,6 @@ use Rattle.cycles.proofs.finder.turn.Goals as goal
 
 pub scan-requires-clause-known : goal.scan-requires-clause-known
 scan-requires-clause-known g c = (last _ _ _ _ c.requires).knows
-
-pub bounds-search-node : goal.bounds-search-node
-bounds-search-node g c = omega (arith, (last _ _ _ _ c.requires).inside, c.requires.few)
-
-pub offset_bounds-search-node : goal.offset_bounds-search-node
-offset_bounds-search-node g c = let few : c.args.top.by.to < 128 = omega (arith, (last _ _ _ _ c.requires).inside, c.requires.few) in search rules
 
 pub returns-in-Nowhere : goal.returns-in-Nowhere
 returns-in-Nowhere g c = finished_turn _ _ _ c.requires c.in-Nowhere.told c.in-Nowhere.ensures
