@@ -1,5 +1,4 @@
 pub mod Begins
-pub mod Knowing
 pub mod Marking
 pub mod Paths
 pub mod Turning

@@ -1,5 +1,5 @@
 -- Turns of the search as a whole: what they leave, and the cycle that they find.
-use Rattle.std.proofs.Common.{◌≡◌, ℕ, ◌+◌, ◌-◌, ◌<◌, ◌≢◌, [], ◌∷◌, ◌++◌, length, drop, set, Some, None, sym, refl, ap, ◌∙◌, subst, arith}
+use Rattle.std.proofs.Common.{◌≡◌, ℕ, ◌+◌, ◌-◌, ◌<◌, ◌≢◌, [], ◌∷◌, ◌++◌, length, drop, set, Some, None, sym, ap, ◌∙◌, subst, arith}
 use Rattle.std.proofs.lemmas.List.{length-drop, length-map, length_push}
 use Rattle.graphs.specs.Graph.{Edges, tells, Leads}
 use Rattle.graphs.specs.declared.route.Route.{Route}
@@ -11,7 +11,7 @@ use Rattle.cycles.specs.declared.search.Search.{Search}
 use Rattle.cycles.specs.declared.finder.Next.TheVariants.{Nowhere, On, Back}
 use Rattle.cycles.specs.Finding.{IsCycle}
 use Rattle.graphs.specs.Routes.{steps_of}
-use Rattle.cycles.specs.Search.{Right, SoundIn, Scanned, Turned, Explored, Reached, followed_at, mark_of, pushed, turned, with_top}
+use Rattle.cycles.specs.Search.{Right, SoundIn, Scanned, Turned, followed_at, mark_of, pushed, turned, with_top}
 use Rattle.cycles.proofs.Marking.{reached_still}
 use Rattle.cycles.proofs.Turning.{at_top, closes, enough, enough_marks, finish_news, finish_sound, last, push_news, push_room, push_sound, short, told_sound}
 
@@ -26,13 +26,6 @@ module _ (g : Edges) (s : Search) (h : SoundIn g s) where
 
     pushed_reached : (v : ℕ) → mark_of (pushed s x).marks v ≡ New → (v ≢ x.to) × (mark_of s.marks v ≡ New)
     pushed_reached = reached_still g s.marks x.to New (Active (length s.trail.items)) inside (enough g s.marks s.trail.items h) was (λ e. let z : ◌≡◌ {A = ℕ} 0 1 = cc in omega arith)
-
-    -- the search goes on from there until the trail is empty
-    pub explored : (p t : Search) → p ≡ pushed s x → SoundIn g t → t.trail.items ≡ [] → Reached p t → Explored g x.to s t
-    explored p t is sound none reached = record { sound = sound; none = none; reached = λ v new. (old v new).1; left = λ new. (old x.to new).0 refl }
-      where
-        old : (v : ℕ) → mark_of t.marks v ≡ New → (v ≢ x.to) × (mark_of s.marks v ≡ New)
-        old v new = pushed_reached v (ap (λ q. mark_of q.marks v) (sym is) ∙ reached v new)
 
     pub pushed_turn : Turned g s (pushed s x)
     pushed_turn = record {
@@ -89,9 +82,6 @@ module _ (g : Edges) (s : Search) (top : Followed) (h : SoundIn g (with_top s to
     leads_on i e =
         let is : i ≡ length s.trail.items = omega (arith, e, length_push s.trail.items noted) in
         subst (λ a. tells g a t.slot ≡ Some w) (sym (ap (λ n. (followed_at (s.trail.items ++ noted ∷ []) n).by.to) is ∙ ap (λ (f : Followed). f.by.to) (at_top s.trail.items noted))) scanned.0
-
-    pub onward_room : length (s.trail.items ++ noted ∷ []) < 128
-    onward_room = pushed_room g (with_top s noted) noted_sound onward scanned.1 scanned.2 leads_on
 
     pub onward_turn : Turned g (with_top s top) (pushed (with_top s noted) onward)
     onward_turn =

@@ -1,5 +1,5 @@
 -- A path is written from its end to its front, back along the notes of a search.
-use Rattle.std.proofs.Common.{◌≡◌, ℕ, ◌+◌, ◌<◌, ◌≤◌, Bool, true, List, ◌∷◌, length, take, drop, set, Some, None, Option, sym, refl, ap, ◌∙◌, subst, arith}
+use Rattle.std.proofs.Common.{◌≡◌, ℕ, ◌+◌, ◌<◌, ◌≤◌, Bool, true, List, ◌∷◌, length, take, drop, set, Some, Option, sym, refl, ap, ◌∙◌, subst, arith}
 use Rattle.std.proofs.lemmas.List.{drop_all, drop-set, length-take-le}
 use Rattle.graphs.specs.declared.arrival.Arrival.{Arrival}
 use Rattle.graphs.specs.declared.route.Step.{Step}
@@ -41,7 +41,3 @@ module _ (xs : List (Option Arrival)) (node size : ℕ) where
         front_is i x inside =
             ap (drop i) (take-set-lt size steps i x inside)
             ∙ drop-set (take size steps) i x (omega (arith, inside, length-take-le size steps (omega (arith, long, few))))
-
-  -- a step is still to come, so the node was reached
-  pub back_there : (steps : List Step) (k at : ℕ) → 0 < k → Backs steps k at → (g : Edges) (given : ℕ → Bool) → Traced g given xs → arrival_at xs at ≡ None → ⊥
-  back_there steps k at some back g given traced none = omega (arith, (back g given traced).more some, ap arrival_steps none)
