@@ -2,6 +2,7 @@
 #![tactic(auto)]
 
 pub mod laws;
+mod memory;
 pub mod queue;
 pub mod refusals;
 pub mod ring;

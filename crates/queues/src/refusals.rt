@@ -1,6 +1,10 @@
 // What a queue refuses.
 ghost use Rattle.queues.specs.Refusals.{drop_told, full_letter, put_told};
-ghost use Rattle.std.specs.Prelude.{◌≡◌};
+ghost use Rattle.queues.specs.Texts.{drop_refusal_text, put_refusal_text};
+ghost use Rattle.std.specs.Prelude.{◌≡◌, Some};
+
+use std::error::Error;
+use std::fmt;
 
 // Why a put was refused.
 #[derive(Clone, Copy, PartialEq, Eq, Debug)]
@@ -10,7 +14,7 @@ pub enum PutRefusal {
 }
 
 impl PutRefusal {
-    // The number of the refusal.
+    // The number of the refusal. A method and no conversion: a refusal tells it, and is more than it.
     pub fn number(self) -> u8
         ensures { result ≡ (put_told self).number }
     {
@@ -29,6 +33,18 @@ impl PutRefusal {
     }
 }
 
+impl fmt::Display for PutRefusal {
+    ghost output = { λ refusal. Some (put_refusal_text refusal) };
+
+    fn fmt<W: fmt::Write>(&self, f: &mut fmt::Formatter<W>) -> fmt::Result {
+        match self {
+            PutRefusal::Full { .. } => write!(f, "queue full"),
+        }
+    }
+}
+
+impl Error for PutRefusal {}
+
 // Why a drop was refused.
 #[derive(Clone, Copy, PartialEq, Eq, Debug)]
 pub enum DropRefusal {
@@ -37,7 +53,7 @@ pub enum DropRefusal {
 }
 
 impl DropRefusal {
-    // The number of the refusal.
+    // The number of the refusal. A method and no conversion: a refusal tells it, and is more than it.
     pub fn number(self) -> u8
         ensures { result ≡ (drop_told self).number }
     {
@@ -46,3 +62,15 @@ impl DropRefusal {
         }
     }
 }
+
+impl fmt::Display for DropRefusal {
+    ghost output = { λ refusal. Some (drop_refusal_text refusal) };
+
+    fn fmt<W: fmt::Write>(&self, f: &mut fmt::Formatter<W>) -> fmt::Result {
+        match self {
+            DropRefusal::BeyondCount => write!(f, "drop beyond the count"),
+        }
+    }
+}
+
+impl Error for DropRefusal {}

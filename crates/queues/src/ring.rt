@@ -1,11 +1,14 @@
 // The ring: a queue that runs round in its memory.
 ghost use Rattle.queues.specs.Memory.{limit_of, ring_held, ring_letter};
-ghost use Rattle.std.specs.Prelude.{◌≡◌, ◌+◌, ◌-◌, ◌≤◌, [], length, if◌then◌else◌, nat_lt};
+ghost use Rattle.queues.specs.Queue.{Held};
+ghost use Rattle.std.specs.Prelude.{◌≡◌, ◌+◌, ◌-◌, ◌≤◌, [], if◌then◌else◌, nat_lt};
 
-use crate::queue::{MAX_LIMIT, Queue};
+use crate::memory::limit_over;
+use crate::queue::Queue;
 use crate::refusals::{DropRefusal, PutRefusal};
+use std::marker::Model;
 
-// The letter of a ring.
+// The letter of a ring, apart from the trait's constant: of that one the proof of a method knows no value.
 const RING: char = 'R';
 
 // A queue that runs round in memory lent by the caller: behind the last place in use comes the first.
@@ -14,14 +17,20 @@ pub struct Ring<'a, T> {
     memory: &'a mut [T],
     head: usize,
     count: usize,
-    ghost inside: { head ≤ limit_of memory.now },
-    ghost within: { count ≤ limit_of memory.now },
+}
+
+impl<'a, T> Model for Ring<'a, T> {
+    ghost Value = { Held T };
+
+    ghost view = { λ q. ring_held q.memory.now q.head q.count };
+
+    ghost invariant = { λ q. (q.head ≤ limit_of q.memory.now) × (q.count ≤ limit_of q.memory.now) };
 }
 
 impl<'a, T: Copy> Ring<'a, T> {
     // An empty ring over `memory`.
     pub fn new(memory: &'a mut [T]) -> Ring<'a, T>
-        ensures { ring_held result.memory.now result.head result.count ≡ record { items = []; limit = limit_of memory.old; letter = ring_letter } }
+        ensures { result ≡ record { items = []; limit = limit_of memory.old; letter = ring_letter } }
     {
         Ring {
             memory,
@@ -45,21 +54,20 @@ fn wrapped(head: usize, by: usize, limit: usize) -> usize
 impl<'a, T: Copy> Queue<T> for Ring<'a, T> {
     const LETTER: char = RING;
 
-    ghost meaning = { λ q. ring_held q.memory.now q.head q.count };
+    ghost meaning = { λ q. q };
 
     fn count(&self) -> usize {
         self.count
     }
 
     fn limit(&self) -> usize {
-        self.memory.len().min(MAX_LIMIT)
+        limit_over(self.memory)
     }
 
     fn element(&self, place: usize) -> Option<T> {
+        // Under `then` a closure would need clauses on the fields, which say again what `wrapped` and the index ask.
         if place < self.count {
-            let at = wrapped(self.head, place, self.limit());
-            let memory = &self.memory[..];
-            Some(memory[at])
+            Some(self.memory[wrapped(self.head, place, self.limit())])
         } else {
             None
         }
@@ -67,13 +75,11 @@ impl<'a, T: Copy> Queue<T> for Ring<'a, T> {
 
     fn put(&mut self, element: T) -> Result<(), PutRefusal> {
         let limit = self.limit();
-        let count = self.count;
-        if count >= limit {
+        if self.count >= limit {
             return Err(PutRefusal::Full { letter: RING });
         }
-        let at = wrapped(self.head, count, limit);
-        self.memory[at] = element;
-        self.count = count + 1;
+        self.memory[wrapped(self.head, self.count, limit)] = element;
+        self.count += 1;
         Ok(())
     }
 

@@ -1,11 +1,14 @@
 // The straight queue: its elements lie in one run at the front of its memory.
 ghost use Rattle.queues.specs.Memory.{limit_of, straight_held, straight_letter};
-ghost use Rattle.std.specs.Prelude.{◌≡◌, ◌≤◌, [], length};
+ghost use Rattle.queues.specs.Queue.{Held};
+ghost use Rattle.std.specs.Prelude.{◌≡◌, ◌≤◌, []};
 
-use crate::queue::{MAX_LIMIT, Queue};
+use crate::memory::limit_over;
+use crate::queue::Queue;
 use crate::refusals::{DropRefusal, PutRefusal};
+use std::marker::Model;
 
-// The letter of a straight queue.
+// The letter of a straight queue, apart from the trait's constant: of that one the proof of a method knows no value.
 const STRAIGHT: char = 'S';
 
 // A queue that keeps its elements in one run, at the front of memory lent by the caller.
@@ -13,13 +16,20 @@ const STRAIGHT: char = 'S';
 pub struct Straight<'a, T> {
     memory: &'a mut [T],
     count: usize,
-    ghost within: { count ≤ limit_of memory.now },
+}
+
+impl<'a, T> Model for Straight<'a, T> {
+    ghost Value = { Held T };
+
+    ghost view = { λ q. straight_held q.memory.now q.count };
+
+    ghost invariant = { λ q. q.count ≤ limit_of q.memory.now };
 }
 
 impl<'a, T: Copy> Straight<'a, T> {
     // An empty straight queue over `memory`.
     pub fn new(memory: &'a mut [T]) -> Straight<'a, T>
-        ensures { straight_held result.memory.now result.count ≡ record { items = []; limit = limit_of memory.old; letter = straight_letter } }
+        ensures { result ≡ record { items = []; limit = limit_of memory.old; letter = straight_letter } }
     {
         Straight { memory, count: 0 }
     }
@@ -28,32 +38,26 @@ impl<'a, T: Copy> Straight<'a, T> {
 impl<'a, T: Copy> Queue<T> for Straight<'a, T> {
     const LETTER: char = STRAIGHT;
 
-    ghost meaning = { λ q. straight_held q.memory.now q.count };
+    ghost meaning = { λ q. q };
 
     fn count(&self) -> usize {
         self.count
     }
 
     fn limit(&self) -> usize {
-        self.memory.len().min(MAX_LIMIT)
+        limit_over(self.memory)
     }
 
     fn element(&self, place: usize) -> Option<T> {
-        if place < self.count {
-            let memory = &self.memory[..];
-            Some(memory[place])
-        } else {
-            None
-        }
+        self.memory[..self.count].get(place).copied()
     }
 
     fn put(&mut self, element: T) -> Result<(), PutRefusal> {
-        let count = self.count;
-        if count >= self.limit() {
+        if self.count >= self.limit() {
             return Err(PutRefusal::Full { letter: STRAIGHT });
         }
-        self.memory[count] = element;
-        self.count = count + 1;
+        self.memory[self.count] = element;
+        self.count += 1;
         Ok(())
     }
 
@@ -61,11 +65,8 @@ impl<'a, T: Copy> Queue<T> for Straight<'a, T> {
         if k > self.count {
             return Err(DropRefusal::BeyondCount);
         }
-        let count = self.count - k;
-        for i in 0..count {
-            self.memory[i] = self.memory[k + i];
-        }
-        self.count = count;
+        self.memory.copy_within(k..self.count, 0);
+        self.count -= k;
         Ok(())
     }
 }

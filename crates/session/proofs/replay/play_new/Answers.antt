@@ -1,5 +1,4 @@
 use Rattle.std.proofs.Common.{ap, ◌∙◌}
-use Rattle.queues.specs.Memory.{ring_held, straight_held}
 use Rattle.session.specs.Sessions.{kind_letter}
 use Rattle.session.proofs.Playing.{fresh_is, over_new}
 use Rattle.session.proofs.replay.play_new.Goals as goal
@@ -7,11 +6,9 @@ use Rattle.session.proofs.replay.play_new.Goals as goal
 pub returns-in-Ring : goal.returns-in-Ring
 returns-in-Ring c =
     let new = c.new-ring.ensures ∙ fresh_is _ c.args.making 82 (c.as_mut_slice.ensures.len ∙ c.in_ok-memory.ensures.len) (ap kind_letter c.in-Ring.is) in
-    let ring = c.play_over.new.queue in
-    over_new _ _ _ _ (ring_held ring.memory.now ring.head ring.count) _ _ _ _ _ _ _ new c.play_over.ensures
+    over_new _ _ _ _ c.play_over.new.queue _ _ _ _ _ _ _ new c.play_over.ensures
 
 pub returns : goal.returns
 returns c =
     let new = c.new-straight.ensures ∙ fresh_is _ c.args.making 83 (c.as_mut_slice-in-Straight.ensures.len ∙ c.in_ok-memory.ensures.len) (ap kind_letter c.in-Straight.is) in
-    let straight = c.play_over-in-Straight.new.queue in
-    over_new _ _ _ _ (straight_held straight.memory.now straight.count) _ _ _ _ _ _ _ new c.play_over-in-Straight.ensures
+    over_new _ _ _ _ c.play_over-in-Straight.new.queue _ _ _ _ _ _ _ new c.play_over-in-Straight.ensures
