@@ -1,5 +1,4 @@
 use Rattle.std.proofs.Common.{◌≡◌, ℕ, ◌+◌, ◌<◌, length, get_or, take, Some, Option, sym, ap, ◌∙◌, subst, arith, rules}
-use Rattle.std.proofs.lemmas.List.{take_all}
 use Rattle.munch.specs.Munch.{state_at}
 use Rattle.munch.specs.Plain.{TellsLongest}
 use Rattle.munch.proofs.Scanning.{longest_here, longest_past, state_more, told}
@@ -31,8 +30,3 @@ loop-i-preserved g c =
             subst Tells (sym w.best-is) (longest_past table bytes i more (sym rule ∙ w.if-rule-ne0.false) c.loop-i.best c.loop-i.invariant.2)
       ],
     )
-
-pub returns : goal.returns
-returns g c =
-    let table = g.T.RuleTable.meaning c.args.table.now in
-    subst (λ w. TellsLongest table w c.loop-i.best) (take_all c.loop-i.i c.args.bytes.now c.loop-i-test.false) c.loop-i.invariant.2
