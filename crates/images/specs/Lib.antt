@@ -3,3 +3,5 @@ pub mod Image
 pub mod Judging
 pub mod Loaded
 pub mod LoadedSound
+pub mod Reading
+pub mod Texts

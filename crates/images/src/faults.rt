@@ -1,7 +1,11 @@
 // What can be wrong with an image, and what each fault tells.
 ghost use Rattle.images.specs.Faults.{letter_of, told};
+ghost use Rattle.images.specs.Texts.{early_text, fault_text};
 ghost use Rattle.images.specs.declared.faults.LoadFault.TheVariants.{Read};
-ghost use Rattle.std.specs.Prelude.{◌≡◌};
+ghost use Rattle.std.specs.Prelude.{◌≡◌, Some};
+
+use std::error::Error;
+use std::fmt;
 
 // The layer that found a fault: the byte reader, or the loader above it.
 #[derive(Clone, Copy, PartialEq, Eq, Debug)]
@@ -11,7 +15,7 @@ pub enum Layer {
 }
 
 impl Layer {
-    // The letter of the layer: B for the byte reader, L for the loader.
+    // The letter of the layer: B for the byte reader, L for the loader. A method and no conversion, as `number` below.
     pub fn letter(self) -> char
         ensures { result ≡ letter_of self }
     {
@@ -28,7 +32,18 @@ pub struct EndsEarly {
     pub length: usize,
 }
 
-// The fault of the loader, at a place of the image counted from 0.
+impl fmt::Display for EndsEarly {
+    ghost output = { λ fault. Some (early_text fault) };
+
+    fn fmt<W: fmt::Write>(&self, f: &mut fmt::Formatter<W>) -> fmt::Result {
+        write!(f, "image ends early")
+    }
+}
+
+impl Error for EndsEarly {}
+
+// The fault of the loader, at a place of the image counted from 0. Each variant has its place, and no struct has it
+// for all: the byte reader's fault tells the image's length in its stead.
 #[derive(Clone, Copy, PartialEq, Eq, Debug)]
 pub enum LoadFault {
     // The byte reader's fault, whole.
@@ -46,7 +61,7 @@ pub enum LoadFault {
 }
 
 impl LoadFault {
-    // The number of the fault, 1 to 6.
+    // The number of the fault, 1 to 6. A method and no conversion: a fault tells it, and is more than it.
     pub fn number(self) -> u8
         ensures { result ≡ (told self).number }
     {
@@ -92,3 +107,21 @@ impl From<EndsEarly> for LoadFault {
         LoadFault::Read(fault)
     }
 }
+
+// The fault in words, without its place.
+impl fmt::Display for LoadFault {
+    ghost output = { λ fault. Some (fault_text fault) };
+
+    fn fmt<W: fmt::Write>(&self, f: &mut fmt::Formatter<W>) -> fmt::Result {
+        match self {
+            LoadFault::Read(early) => write!(f, "{early}"),
+            LoadFault::Classes { .. } => write!(f, "first count not 256, or class above 63"),
+            LoadFault::States { .. } => write!(f, "number of states 0 or above 128"),
+            LoadFault::StepCount { .. } => write!(f, "third count not states times classes"),
+            LoadFault::NextState { .. } => write!(f, "next state not below the number of states"),
+            LoadFault::LeftOver { .. } => write!(f, "bytes left over"),
+        }
+    }
+}
+
+impl Error for LoadFault {}

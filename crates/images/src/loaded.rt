@@ -11,13 +11,17 @@ pub const MAX_CLASSES: usize = 64;
 
 const MAX_STEPS: usize = 8192;
 
+// Every byte has a class.
+const BYTES: usize = 256;
+
 // A rule table loaded from an image. It has the class of each byte, and for each state a row of next states,
-// one for each class. No step leads to a state that it lacks.
+// one for each class. No step leads to a state that it lacks. The library allocates nothing: each list lies in an array
+// of the most that there can be, and the two sizes tell how much of it is in use.
 #[derive(Drop)]
 pub struct LoadedTable {
     states: usize,
     classes: usize,
-    class_of: [u8; 256],
+    class_of: [u8; BYTES],
     labels: [u8; MAX_STATES],
     steps: [u8; MAX_STEPS],
     ghost some_state: { 1 ≤ states },

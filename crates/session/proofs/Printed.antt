@@ -11,7 +11,8 @@ use Rattle.queues.specs.declared.refusals.PutRefusal.{PutRefusal}
 use Rattle.queues.specs.declared.refusals.DropRefusal.{DropRefusal}
 use Rattle.session.specs.declared.answer.Answer.{Answer}
 use Rattle.session.specs.declared.answer.Answer.TheVariants.{Refused, NotPut, NotDropped}
-use Rattle.session.specs.Texts.{answer_text, fault_text}
+use Rattle.images.specs.Texts.{fault_text}
+use Rattle.session.specs.Texts.{answer_text}
 
 letter_text : (l : Layer) → encode (letter_of l) ≡ letter_of l ∷ []
 letter_text Reader = encode_ascii 66 (omega arith)

@@ -2,8 +2,7 @@
 use Rattle.std.specs.Prelude.{ℕ, List, [], ◌∷◌, ◌++◌, Some, None, codes, decimal, Option}
 use Rattle.std.proofs.Math.Utf8.{encode}
 use Rattle.images.specs.Faults.{letter_of, told}
-use Rattle.images.specs.declared.faults.LoadFault.{LoadFault}
-use Rattle.images.specs.declared.faults.LoadFault.TheVariants as fault
+use Rattle.images.specs.Texts.{fault_text}
 use Rattle.queues.specs.Refusals.{drop_told, full_letter, put_told}
 use Rattle.script.specs.Texts.{call_text, mistake_text}
 use Rattle.session.specs.declared.answer.Answer.{Answer}
@@ -16,14 +15,6 @@ use Rattle.session.specs.declared.session.Outcome.TheVariants as outcome
 abbrev pub hand_text : Hand → List ℕ
 hand_text hand.Share = codes "share table"
 hand_text hand.Loaded = codes "loaded table"
-
-abbrev pub fault_text : LoadFault → List ℕ
-fault_text (fault.Read f) = codes "image ends early"
-fault_text (fault.Classes p) = codes "first count not 256, or class above 63"
-fault_text (fault.States p) = codes "number of states 0 or above 128"
-fault_text (fault.StepCount p) = codes "third count not states times classes"
-fault_text (fault.NextState p) = codes "next state not below the number of states"
-fault_text (fault.LeftOver p) = codes "bytes left over"
 
 -- What a table told, or that it has no such state.
 abbrev pub option_text : Option ℕ → List ℕ

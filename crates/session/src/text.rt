@@ -1,5 +1,6 @@
 // What is printed of an answer.
-ghost use Rattle.session.specs.Texts.{answer_text, fault_text, hand_text};
+ghost use Rattle.images.specs.Texts.{fault_text};
+ghost use Rattle.session.specs.Texts.{answer_text, hand_text};
 ghost use Rattle.std.specs.Prelude.{◌≡◌, Some};
 
 use crate::answer::{Answer, Hand};

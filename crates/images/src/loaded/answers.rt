@@ -15,19 +15,13 @@ impl RuleTable for LoadedTable {
     }
 
     fn next(&self, state: usize, byte: u8) -> Option<usize> {
-        if state < self.states {
+        (state < self.states).then(|| {
             let class = self.class_of[byte as usize] as usize;
-            Some(self.steps[state * self.classes + class] as usize)
-        } else {
-            None
-        }
+            self.steps[state * self.classes + class] as usize
+        })
     }
 
     fn label(&self, state: usize) -> Option<u8> {
-        if state < self.states {
-            Some(self.labels[state])
-        } else {
-            None
-        }
+        self.labels[..self.states].get(state).copied()
     }
 }

@@ -1,92 +1,85 @@
 // Loading: judges an image from front to back, and fills the table only from an image with no fault.
-ghost use Rattle.images.specs.Image.{class_count, class, state_count, label, step_count, step, end, HasFault, OrderlyBefore, WritesDown, number_of_classes, count_at, labels_end, number_of_states, steps_end};
-ghost use Rattle.images.specs.Judging.{Judged, Measured};
+ghost use Rattle.images.specs.Image.{HasFault, WritesDown, number_of_classes, labels_end, number_of_states, steps_end};
+ghost use Rattle.images.specs.Judging.{HasSize, Judged, Measured, Reached};
 ghost use Rattle.images.specs.Loaded.{table_of};
 ghost use Rattle.tables.specs.Table.{Empty, Table};
-ghost use Rattle.std.specs.Prelude.{◌≡◌, ◌+◌, ◌*◌, ◌<◌, ◌≤◌, ◌++◌, length, drop, is_ok, Decides, MatchResult, slice_index};
+ghost use Rattle.std.specs.Prelude.{◌≡◌, ◌≤◌, length, is_ok, Decides, MatchResult};
 
 use crate::faults::LoadFault;
-use crate::loaded::{LoadedTable, MAX_CLASSES, MAX_STATES, MAX_STEPS};
+use crate::loaded::{BYTES, LoadedTable, MAX_CLASSES, MAX_STATES, MAX_STEPS};
 use crate::reader::Reader;
-
-// Every byte has a class.
-const BYTES: usize = 256;
 
 // Where the classes and the labels of an image begin.
 const CLASSES_AT: usize = 2;
 
 const LABELS_AT: usize = 260;
 
-// Reads the count of the first section, which is 256.
-fn read_class_count(reader: &mut Reader) -> Result<(), LoadFault>
-    ensures image { reader.new.image.now ≡ reader.old.image.now }
-    ensures judged { Judged reader.old.image.now class_count reader.old.place reader.new.place result (λ _. Unit {0}) }
-{
-    let place = reader.place();
-    if reader.count()? == 256 {
-        Ok(())
-    } else {
-        Err(LoadFault::Classes { place })
-    }
+// How large the table is that an image writes down.
+#[derive(Clone, Copy)]
+struct Size {
+    states: usize,
+    classes: usize,
 }
 
-// Reads one class, which is below 64.
-fn read_class(reader: &mut Reader) -> Result<u8, LoadFault>
-    ensures image { reader.new.image.now ≡ reader.old.image.now }
-    ensures judged { Judged reader.old.image.now class reader.old.place reader.new.place result (λ c. c ≡ slice_index reader.old.image.now reader.old.place) }
+// Reads the first section: the count of the bytes, and the class of each, below 64. Answers the number of classes.
+fn read_classes(reader: &mut Reader) -> Result<usize, LoadFault>
+    requires { Reached reader.old 0 }
+    ensures { Judged reader.old 258 result reader.new (λ k. (k ≡ number_of_classes reader.old.image) × (k ≤ 64)) }
 {
-    let place = reader.place();
-    let class = reader.byte()?;
-    if (class as usize) < MAX_CLASSES {
-        Ok(class)
-    } else {
-        Err(LoadFault::Classes { place })
+    let fault = |place| LoadFault::Classes { place };
+    reader.count()?.judge(|n| n == BYTES, fault)?;
+    let mut largest = 0;
+    for _ in 0..BYTES {
+        let class = reader.byte()?.judge(|n| n < MAX_CLASSES, fault)?;
+        largest = largest.max(class);
     }
+    Ok(largest + 1)
 }
 
 // Reads the number of states, which is 1 to 128.
 fn read_state_count(reader: &mut Reader) -> Result<usize, LoadFault>
-    ensures image { reader.new.image.now ≡ reader.old.image.now }
-    ensures judged { Judged reader.old.image.now state_count reader.old.place reader.new.place result (λ n. n ≡ count_at reader.old.image.now reader.old.place) }
+    requires { Reached reader.old 258 }
+    ensures { Judged reader.old 260 result reader.new (λ n. (n ≡ number_of_states reader.old.image) × (n ≤ 128)) }
 {
-    let place = reader.place();
-    let states = reader.count()? as usize;
-    if 1 <= states && states <= MAX_STATES {
-        Ok(states)
-    } else {
-        Err(LoadFault::States { place })
-    }
+    reader.count()?.judge(
+        |n| (1..=MAX_STATES).contains(&n),
+        |place| LoadFault::States { place },
+    )
 }
 
-// Reads the count of the third section, which is `steps`.
-fn read_step_count(reader: &mut Reader, steps: usize) -> Result<(), LoadFault>
-    ensures image { reader.new.image.now ≡ reader.old.image.now }
-    ensures judged { steps ≡ number_of_states reader.old.image.now * number_of_classes reader.old.image.now → Judged reader.old.image.now step_count reader.old.place reader.new.place result (λ _. Unit {0}) }
+// Reads the labels, whatever they are.
+fn read_labels(reader: &mut Reader, size: Size) -> Result<(), LoadFault>
+    requires size { HasSize reader.old.image size.states size.classes }
+    requires labels { Reached reader.old 260 }
+    ensures { Judged reader.old (labels_end reader.old.image) result reader.new (λ _. Unit {0}) }
 {
-    let place = reader.place();
-    if reader.count()? as usize == steps {
-        Ok(())
-    } else {
-        Err(LoadFault::StepCount { place })
-    }
+    reader.skip(size.states)?;
+    Ok(())
 }
 
-// Reads one next state, which is below `states`.
-fn read_step(reader: &mut Reader, states: usize) -> Result<(), LoadFault>
-    ensures image { reader.new.image.now ≡ reader.old.image.now }
-    ensures judged { states ≡ number_of_states reader.old.image.now → Judged reader.old.image.now step reader.old.place reader.new.place result (λ _. Unit {0}) }
+// Reads the third section: the count of the steps, and the next state of each, which is a state of the table.
+fn read_steps(reader: &mut Reader, size: Size) -> Result<(), LoadFault>
+    requires size { HasSize reader.old.image size.states size.classes }
+    requires count { Reached reader.old (labels_end reader.old.image) }
+    ensures { Judged reader.old (steps_end reader.old.image) result reader.new (λ _. Unit {0}) }
 {
-    let place = reader.place();
-    if (reader.byte()? as usize) < states {
-        Ok(())
-    } else {
-        Err(LoadFault::NextState { place })
+    let Size { states, classes } = size;
+    let steps = states * classes;
+    reader
+        .count()?
+        .judge(|n| n == steps, |place| LoadFault::StepCount { place })?;
+    for _ in 0..steps {
+        reader
+            .byte()?
+            .judge(|n| n < states, |place| LoadFault::NextState { place })?;
     }
+    Ok(())
 }
 
 // Sees that nothing is left over.
 fn read_end(reader: &Reader) -> Result<(), LoadFault>
-    ensures { Judged reader.now.image.now end reader.now.place reader.now.place result (λ _. length reader.now.image.now ≡ reader.now.place) }
+    requires { Reached reader.now (steps_end reader.now.image) }
+    ensures { Judged reader.now (steps_end reader.now.image) result reader.now (λ _. length reader.now.image ≡ reader.now.place) }
 {
     if reader.at_end() {
         Ok(())
@@ -97,55 +90,6 @@ fn read_end(reader: &Reader) -> Result<(), LoadFault>
     }
 }
 
-// Reads the first section, and answers the number of classes.
-fn read_classes(reader: &mut Reader) -> Result<usize, LoadFault>
-    requires { reader.old.place ≡ 0 }
-    ensures image { reader.new.image.now ≡ reader.old.image.now }
-    ensures cases { MatchResult result (λ k. (k ≡ number_of_classes reader.old.image.now) × (k ≤ 64) × (reader.new.place ≡ 258) × OrderlyBefore reader.old.image.now 258) (HasFault reader.old.image.now) }
-{
-    read_class_count(reader)?;
-    let mut largest: u8 = 0;
-    for _ in 0..BYTES {
-        largest = largest.max(read_class(reader)?);
-    }
-    Ok(largest as usize + 1)
-}
-
-// Reads the labels of `states` states.
-fn read_labels(reader: &mut Reader, states: usize) -> Result<(), LoadFault>
-    requires states { states ≡ number_of_states reader.old.image.now }
-    requires place { reader.old.place ≡ 260 }
-    requires before { OrderlyBefore reader.old.image.now 260 }
-    ensures image { reader.new.image.now ≡ reader.old.image.now }
-    ensures cases { MatchResult result (λ _. (reader.new.place ≡ labels_end reader.old.image.now) × OrderlyBefore reader.old.image.now (labels_end reader.old.image.now)) (HasFault reader.old.image.now) }
-{
-    reader.skip(states)?;
-    Ok(())
-}
-
-// Reads the third section, of `steps` next states, each below `states`.
-fn read_steps(reader: &mut Reader, states: usize, steps: usize) -> Result<(), LoadFault>
-    requires states { states ≡ number_of_states reader.old.image.now }
-    requires steps { steps ≡ number_of_states reader.old.image.now * number_of_classes reader.old.image.now }
-    requires place { reader.old.place ≡ labels_end reader.old.image.now }
-    requires before { OrderlyBefore reader.old.image.now (labels_end reader.old.image.now) }
-    ensures image { reader.new.image.now ≡ reader.old.image.now }
-    ensures cases { MatchResult result (λ _. (reader.new.place ≡ steps_end reader.old.image.now) × OrderlyBefore reader.old.image.now (steps_end reader.old.image.now)) (HasFault reader.old.image.now) }
-{
-    read_step_count(reader, steps)?;
-    for _ in 0..steps {
-        read_step(reader, states)?;
-    }
-    Ok(())
-}
-
-// How large the table is that an image writes down.
-#[derive(Clone, Copy)]
-struct Size {
-    states: usize,
-    classes: usize,
-}
-
 // Judges the whole image, and answers the size of its table.
 fn judge(image: &[u8]) -> Result<Size, LoadFault>
     ensures { MatchResult result (λ z. Measured image.now z.states z.classes) (HasFault image.now) }
@@ -153,18 +97,11 @@ fn judge(image: &[u8]) -> Result<Size, LoadFault>
     let mut reader = Reader::new(image);
     let classes = read_classes(&mut reader)?;
     let states = read_state_count(&mut reader)?;
-    read_labels(&mut reader, states)?;
-    read_steps(&mut reader, states, states * classes)?;
+    let size = Size { states, classes };
+    read_labels(&mut reader, size)?;
+    read_steps(&mut reader, size)?;
     read_end(&reader)?;
-    Ok(Size { states, classes })
-}
-
-// Copies `from` to the front of `to`.
-fn copy_front(to: &mut [u8], from: &[u8])
-    requires { length from.now ≤ length to.old }
-    ensures { to.new ≡ from.now ++ drop (length from.now) to.old }
-{
-    to[0..from.len()].copy_from_slice(from);
+    Ok(size)
 }
 
 impl LoadedTable {
@@ -175,26 +112,34 @@ impl LoadedTable {
         LoadedTable {
             states: 1,
             classes: 1,
-            class_of: [0; 256],
+            class_of: [0; BYTES],
             labels: [0; MAX_STATES],
             steps: [0; MAX_STEPS],
         }
     }
 
-    // Fills the table with what an image in order writes down.
-    fn fill(&mut self, image: &[u8], size: Size)
+    // The table that an image in order writes down.
+    fn written(image: &[u8], size: Size) -> LoadedTable
         requires { Measured image.now size.states size.classes }
-        ensures { WritesDown image.now (table_of self.new) }
+        ensures { WritesDown image.now (table_of result) }
     {
         let Size { states, classes } = size;
         let labels_end = LABELS_AT + states;
         let steps_at = labels_end + 2;
-        let steps = states * classes;
-        self.states = states;
-        self.classes = classes;
-        copy_front(&mut self.class_of, &image[CLASSES_AT..CLASSES_AT + BYTES]);
-        copy_front(&mut self.labels, &image[LABELS_AT..labels_end]);
-        copy_front(&mut self.steps, &image[steps_at..steps_at + steps]);
+        let steps_end = steps_at + states * classes;
+        let mut class_of = [0; BYTES];
+        class_of.copy_from_slice(&image[CLASSES_AT..CLASSES_AT + BYTES]);
+        let mut labels = [0; MAX_STATES];
+        labels[..states].copy_from_slice(&image[LABELS_AT..labels_end]);
+        let mut steps = [0; MAX_STEPS];
+        steps[..states * classes].copy_from_slice(&image[steps_at..steps_end]);
+        LoadedTable {
+            states,
+            classes,
+            class_of,
+            labels,
+            steps,
+        }
     }
 
     // Loads the table that `image` writes down, or tells the image's fault and leaves the table as it was.
@@ -203,7 +148,7 @@ impl LoadedTable {
         ensures exact { Decides (is_ok result) ((t : Table) × WritesDown image.now t) }
     {
         let size = judge(image)?;
-        self.fill(image, size);
+        *self = LoadedTable::written(image, size);
         Ok(())
     }
 }

@@ -1,11 +1,6 @@
--- A list of zeros has a zero at every place.
-use Rattle.std.proofs.Common.{◌≡◌, ℕ, zero, suc, ◌+◌, ◌*◌, get_or, replicate, refl, arith, lit≤}
+use Rattle.std.proofs.Common.{ℕ, ◌+◌, ◌*◌, get_or, replicate, refl, arith, lit≤, lit<}
+use Rattle.std.proofs.lemmas.List.{get_or-replicate}
 use Rattle.images.proofs.loaded.LoadedTable.empty.Goals as goal
-
-zero_at : (n i : ℕ) → get_or (replicate {A = ℕ} n 0) i 0 ≡ 0
-zero_at zero i = refl
-zero_at (suc n) zero = refl
-zero_at (suc n) (suc i) = zero_at n i
 
 pub invariant_of-result : goal.invariant_of-result
 invariant_of-result c =
@@ -13,10 +8,15 @@ invariant_of-result c =
       some_state = lit≤ tt;
       few_states = lit≤ tt;
       few_classes = lit≤ tt;
-      classes_inside = λ b _. omega (arith, zero_at 256 b);
-      labels_are_bytes = λ s _. omega (arith, zero_at 128 s);
-      steps_inside = λ i _. omega (arith, zero_at 8192 i);
+      classes_inside = λ b h. omega (arith, get_or-replicate {A = ℕ} 256 b 0 0 h);
+      labels_are_bytes = λ s h. omega (arith, get_or-replicate {A = ℕ} 128 s 0 0 (omega arith));
+      steps_inside = λ i h. omega (arith, get_or-replicate {A = ℕ} 8192 i 0 0 (omega arith));
     }
 
 pub returns : goal.returns
-returns c = record { one = refl; stays = λ b h. zero_at 8192 (0 * 1 + get_or (replicate {A = ℕ} 256 0) b 0); accepts_nothing = zero_at 128 0 }
+returns c =
+    record {
+      one = refl;
+      stays = λ b h. get_or-replicate 8192 (0 * 1 + get_or (replicate {A = ℕ} 256 0) b 0) 0 0 (omega (arith, get_or-replicate {A = ℕ} 256 b 0 0 h));
+      accepts_nothing = get_or-replicate 128 0 0 0 (lit< tt);
+    }
