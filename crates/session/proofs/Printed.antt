@@ -3,6 +3,7 @@ use Rattle.std.proofs.Common.{◌≡◌, ℕ, List, [], ◌∷◌, ◌++◌, cod
 use lib.Utf8.{encode}
 use Rattle.std.proofs.lemmas.Str.Ascii.{encode_ascii}
 use Rattle.images.specs.Faults.{letter_of, told}
+use Rattle.images.specs.Texts.{fault_text}
 use Rattle.images.specs.declared.faults.Layer.{Layer}
 use Rattle.images.specs.declared.faults.Layer.TheVariants.{Reader, Loader}
 use Rattle.images.specs.declared.faults.LoadFault.{LoadFault}
@@ -11,7 +12,6 @@ use Rattle.queues.specs.declared.refusals.PutRefusal.{PutRefusal}
 use Rattle.queues.specs.declared.refusals.DropRefusal.{DropRefusal}
 use Rattle.session.specs.declared.answer.Answer.{Answer}
 use Rattle.session.specs.declared.answer.Answer.TheVariants.{Refused, NotPut, NotDropped}
-use Rattle.images.specs.Texts.{fault_text}
 use Rattle.session.specs.Texts.{answer_text}
 
 letter_text : (l : Layer) → encode (letter_of l) ≡ letter_of l ∷ []
