@@ -22,11 +22,11 @@ front_at image part rest a e is low high i h =
     get_or_append_left part rest 0 i (omega (arith, long)) ∙ part_at image part a e is i h
 
 module _ (image : List ℕ) (n k : ℕ) (m : Measured image n k) where
-  class_at : (class_of : List ℕ) → Part image 2 258 class_of → (b : ℕ) → b < 256 → get_or class_of b 0 ≡ class_of_byte image b
-  class_at class_of are b h = part_at image class_of 2 258 are b (omega arith)
+  class_at : (class_of rest : List ℕ) → Part image 2 258 class_of → (b : ℕ) → b < 256 → get_or (class_of ++ rest) b 0 ≡ class_of_byte image b
+  class_at class_of rest are b h = front_at image class_of rest 2 258 are (omega arith) (omega (arith, m.long)) b (omega arith)
 
-  pub classes_inside : (class_of : List ℕ) → Part image 2 258 class_of → (b : ℕ) → b < 256 → get_or class_of b 0 < k
-  classes_inside class_of are b h = omega (arith, class_at class_of are b h, class_inside image b (omega (arith, m.long)) h, m.size.classes)
+  pub classes_inside : (class_of rest : List ℕ) → Part image 2 258 class_of → (b : ℕ) → b < 256 → get_or (class_of ++ rest) b 0 < k
+  classes_inside class_of rest are b h = omega (arith, class_at class_of rest are b h, class_inside image b (omega (arith, m.long)) h, m.size.classes)
 
   label_at : (labels rest : List ℕ) → Part image 260 (260 + n) labels → (s : ℕ) → s < n → get_or (labels ++ rest) s 0 ≡ get_or image (260 + s) 0
   label_at labels rest are s h = front_at image labels rest 260 (260 + n) are (omega arith) (omega (arith, m.long)) s (omega arith)
@@ -42,14 +42,14 @@ module _ (image : List ℕ) (n k : ℕ) (m : Measured image n k) where
       let stands = step_stands image image n k i refl m.size h in
       omega (arith, step_at steps rest are i h, m.size.states, (m.orderly step (260 + n + 2 + i) (omega (arith, m.size.states), omega (arith, m.size.states, stands))).right)
 
-  pub writes_down : (class_of labels label_rest steps step_rest : List ℕ) → Part image 2 258 class_of → Part image 260 (260 + n) labels → Part image (260 + n + 2) (260 + n + 2 + n * k) steps → WritesDown image (record { states = n; next = λ s b. get_or (steps ++ step_rest) (s * k + get_or class_of b 0) 0; label = λ s. get_or (labels ++ label_rest) s 0 })
-  writes_down class_of labels label_rest steps step_rest classes_are labels_are steps_are = record {
+  pub writes_down : (class_of class_rest labels label_rest steps step_rest : List ℕ) → Part image 2 258 class_of → Part image 260 (260 + n) labels → Part image (260 + n + 2) (260 + n + 2 + n * k) steps → WritesDown image (record { states = n; next = λ s b. get_or (steps ++ step_rest) (s * k + get_or (class_of ++ class_rest) b 0) 0; label = λ s. get_or (labels ++ label_rest) s 0 })
+  writes_down class_of class_rest labels label_rest steps step_rest classes_are labels_are steps_are = record {
     orderly = m.orderly;
     states = m.size.states;
     labels = label_at labels label_rest labels_are;
     steps = λ s b hs hb.
-        step_at steps step_rest steps_are (s * k + get_or class_of b 0) (omega (arith, mul-add-lt s k (get_or class_of b 0) n hs (classes_inside class_of classes_are b hb)))
-        ∙ ap (λ x. get_or image (260 + n + 2 + (s * k + x)) 0) (class_at class_of classes_are b hb)
+        step_at steps step_rest steps_are (s * k + get_or (class_of ++ class_rest) b 0) (omega (arith, mul-add-lt s k (get_or (class_of ++ class_rest) b 0) n hs (classes_inside class_of class_rest classes_are b hb)))
+        ∙ ap (λ x. get_or image (260 + n + 2 + (s * k + x)) 0) (class_at class_of class_rest classes_are b hb)
         ∙ ap (λ x. get_or image (260 + n + 2 + (s * x + class_of_byte image b)) 0) m.size.classes
         ∙ ap (λ x. get_or image (260 + x + 2 + (s * number_of_classes image + class_of_byte image b)) 0) m.size.states;
   }

@@ -3,7 +3,7 @@ ghost use Rattle.images.specs.Image.{HasFault, WritesDown, number_of_classes, la
 ghost use Rattle.images.specs.Judging.{HasSize, Judged, Measured, Reached};
 ghost use Rattle.images.specs.Loaded.{table_of};
 ghost use Rattle.tables.specs.Table.{Empty, Table};
-ghost use Rattle.std.specs.Prelude.{◌≡◌, ◌≤◌, length, is_ok, Decides, MatchResult};
+ghost use Rattle.std.specs.Prelude.{◌≡◌, ◌≤◌, ◌++◌, length, drop, is_ok, Decides, MatchResult};
 
 use crate::faults::LoadFault;
 use crate::loaded::{BYTES, LoadedTable, MAX_CLASSES, MAX_STATES, MAX_STEPS};
@@ -104,6 +104,15 @@ fn judge(image: &[u8]) -> Result<Size, LoadFault>
     Ok(size)
 }
 
+// Copies `from` to the front of `to`. A function of its own: a part of a field that is lent in place, beside what holds
+// of all fields together, is not covered by the checker, and a table of its own would be copied once more.
+fn copy_front(to: &mut [u8], from: &[u8])
+    requires { length from.now ≤ length to.old }
+    ensures { to.new ≡ from.now ++ drop (length from.now) to.old }
+{
+    to[..from.len()].copy_from_slice(from);
+}
+
 impl LoadedTable {
     // The empty table: one state, which accepts nothing and which every byte leads back to.
     pub fn empty() -> LoadedTable
@@ -118,28 +127,20 @@ impl LoadedTable {
         }
     }
 
-    // The table that an image in order writes down.
-    fn written(image: &[u8], size: Size) -> LoadedTable
+    // Fills the table with what an image in order writes down.
+    fn fill(&mut self, image: &[u8], size: Size)
         requires { Measured image.now size.states size.classes }
-        ensures { WritesDown image.now (table_of result) }
+        ensures { WritesDown image.now (table_of self.new) }
     {
         let Size { states, classes } = size;
         let labels_end = LABELS_AT + states;
         let steps_at = labels_end + 2;
-        let steps_end = steps_at + states * classes;
-        let mut class_of = [0; BYTES];
-        class_of.copy_from_slice(&image[CLASSES_AT..CLASSES_AT + BYTES]);
-        let mut labels = [0; MAX_STATES];
-        labels[..states].copy_from_slice(&image[LABELS_AT..labels_end]);
-        let mut steps = [0; MAX_STEPS];
-        steps[..states * classes].copy_from_slice(&image[steps_at..steps_end]);
-        LoadedTable {
-            states,
-            classes,
-            class_of,
-            labels,
-            steps,
-        }
+        let steps = states * classes;
+        self.states = states;
+        self.classes = classes;
+        copy_front(&mut self.class_of, &image[CLASSES_AT..CLASSES_AT + BYTES]);
+        copy_front(&mut self.labels, &image[LABELS_AT..labels_end]);
+        copy_front(&mut self.steps, &image[steps_at..steps_at + steps]);
     }
 
     // Loads the table that `image` writes down, or tells the image's fault and leaves the table as it was.
@@ -148,7 +149,7 @@ impl LoadedTable {
         ensures exact { Decides (is_ok result) ((t : Table) × WritesDown image.now t) }
     {
         let size = judge(image)?;
-        *self = LoadedTable::written(image, size);
+        self.fill(image, size);
         Ok(())
     }
 }
