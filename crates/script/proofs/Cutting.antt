@@ -1,8 +1,11 @@
 -- The words of a line, one after another.
-use Rattle.std.proofs.Common.{◌≡◌, ℕ, zero, suc, ◌+◌, ◌<◌, ◌≤◌, Bool, true, false, not, List, [], ◌∷◌, length, get_or, take, drop, sym, refl, ap, ◌∙◌, ⊎_elim, arith}
-use Rattle.std.proofs.lemmas.List.{get_or-drop, length-drop, nil_from_length}
-use Rattle.std.proofs.lemmas.Bool.{cond-true, cond-false, cases_lt, both_ways}
-use Rattle.script.specs.Words.{blank, begins, with, words, joined, Front}
+use Rattle.std.proofs.Common.{◌≡◌, ℕ, zero, suc, ◌<◌, ◌≤◌, Bool, true, false, not, List, [], ◌∷◌, length, get_or, take, drop, Some, None, sym, refl, ap, ◌∙◌, add-zero, arith}
+use Rattle.std.proofs.lemmas.List.{get_or-drop, length-drop, drop_all}
+use Rattle.std.proofs.lemmas.List.Quantifiers.{position-Some}
+use Rattle.std.proofs.lemmas.Bool.{cond-true, cond-false, both_ways, not-true, not-false}
+use Rattle.std.specs.List.{position}
+use Rattle.script.specs.Words.{blank, begins, with, words}
+use Rattle.script.proofs.Fronts.{Front, front_at, front_none}
 
 -- blanks in front do not matter
 pub words_skip : (line : List ℕ) (n : ℕ) → n ≤ length line → ((k : ℕ) → k < n → blank (get_or line k 0) ≡ true) → words line ≡ words (drop n line)
@@ -33,39 +36,35 @@ words_cut (b ∷ c ∷ bs) (suc n) within inside stops =
     ∙ ap (λ t. with b t (words (c ∷ bs))) (begins_at c bs false (inside 1 (omega arith)))
     ∙ ap (with b true) (words_cut (c ∷ bs) n (omega arith) (λ k h. inside (suc k) (omega arith)) (λ h. stops (omega arith)))
 
--- what the two fronts of a line cut off: text is the line without the blanks in front
-module _ (line text : List ℕ) (n m : ℕ) (first : Front line true n) (is : text ≡ drop n line) (second : Front text false m) where
+-- a line of blanks has no word
+pub no_word : (line : List ℕ) → position (λ b. not (blank b)) line ≡ None → words line ≡ []
+no_word line none =
+    let told = front_none (λ b. not (blank b)) line none in
+    words_skip line (length line) (omega arith) (λ k h. not-false _ (told.before k h)) ∙ ap words (drop_all (length line) line (omega arith))
+
+-- the first word of a line, of which text is left behind the blanks in front
+module _ (line text : List ℕ) (n : ℕ) (first : position (λ b. not (blank b)) line ≡ Some n) (is : text ≡ drop n line) where
+  start : Front (λ b. not (blank b)) line n
+  start = front_at (λ b. not (blank b)) line n first
+
   skipped : words line ≡ words text
-  skipped = words_skip line n first.within first.alike ∙ ap words (sym is)
+  skipped = words_skip line n start.within (λ k h. not-false _ (start.before k h)) ∙ ap words (sym is)
 
-  more : m ≡ 0 → 0 < length text → ⊥
-  more none h =
-      let here : n + m ≡ n = omega arith in
-      let long = ap length is ∙ length-drop n line in
-      both_ways (blank (get_or line n 0)) (first.stops (omega (arith, long)))
-      (sym (ap blank (ap (λ l. get_or l m 0) is ∙ get_or-drop n line m 0 ∙ ap (λ k. get_or line k 0) here)) ∙ second.stops (omega arith))
+  here : (0 < length text) × (blank (get_or text 0 0) ≡ false)
+  here =
+      let at = position-Some (λ b. not (blank b)) line n 0 first in (
+        omega (arith, ap length is, length-drop n line, at.0),
+        ap (λ l. blank (get_or l 0 0)) is ∙ ap blank (get_or-drop n line 0 0 ∙ ap (λ k. get_or line k 0) (add-zero n)) ∙ not-true (blank (get_or line n 0)) at.1,
+      )
 
-  pub no_word : m ≡ 0 → words line ≡ []
-  no_word none =
-      skipped ∙ ap words (nil_from_length text (⊎_elim (λ h. absurd (more none h)) (λ h. omega arith) (cases_lt 0 (length text))))
+  cut : (m k : ℕ) → k ≡ m → Front blank text m → words text ≡ take k text ∷ words (drop k text)
+  cut m zero e end = absurd (both_ways (blank (get_or text 0 0)) here.1 (ap (λ k. blank (get_or text k 0)) e ∙ end.stops (omega (arith, here.0))))
+  cut m (suc k) e end =
+      words_cut text k (omega (arith, end.within)) (λ i h. end.before i (omega arith)) (λ h. ap (λ i. blank (get_or text i 0)) e ∙ end.stops (omega arith))
 
-  cut : (k : ℕ) → k ≡ m → (m ≡ 0 → ⊥) → words text ≡ take k text ∷ words (drop k text)
-  cut zero e some = absurd (some (sym e))
-  cut (suc k) e some =
-      words_cut text k (omega (arith, second.within)) (λ i h. second.alike i (omega arith)) (λ h. ap (λ i. blank (get_or text i 0)) e ∙ second.stops (omega arith))
-
-  pub one_word : (word behind : List ℕ) → word ≡ take m text → behind ≡ drop m text → (m ≡ 0 → ⊥) → words line ≡ word ∷ words behind
-  one_word word behind front back some =
-      skipped ∙ cut m refl some ∙ ap (λ l. l ∷ words (drop m text)) (sym front) ∙ ap (λ l. word ∷ words l) (sym back)
-
--- the joined words are the line without its blanks
-with_joined : (b : ℕ) (t : Bool) (ws : List (List ℕ)) → joined (with b t ws) ≡ b ∷ joined ws
-with_joined b t [] = refl
-with_joined b true (w ∷ ws) = refl
-with_joined b false (w ∷ ws) = refl
-
-pub joined_blank : (b : ℕ) (bs : List ℕ) → blank b ≡ true → joined (words (b ∷ bs)) ≡ joined (words bs)
-joined_blank b bs h = ap joined (cond-true (blank b) (words bs) (with b (begins bs) (words bs)) h)
-
-pub joined_other : (b : ℕ) (bs : List ℕ) → blank b ≡ false → joined (words (b ∷ bs)) ≡ b ∷ joined (words bs)
-joined_other b bs h = ap joined (cond-false (blank b) (words bs) (with b (begins bs) (words bs)) h) ∙ with_joined b (begins bs) (words bs)
+  pub next_word : (word behind : List ℕ) (m : ℕ) → Front blank text m → word ≡ take m text → behind ≡ drop m text → words line ≡ word ∷ words behind
+  next_word word behind m end head back =
+      skipped
+      ∙ cut m m refl end
+      ∙ ap (λ l. l ∷ words (drop m text)) (sym head)
+      ∙ ap (λ l. word ∷ words l) (sym back)

@@ -1,5 +1,6 @@
 pub mod Cutting
 pub mod Ending
+pub mod Fronts
 pub mod Pairing
 pub mod Saying
 pub mod Spelled

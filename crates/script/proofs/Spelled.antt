@@ -61,7 +61,8 @@ abbrev with_one : {X : Type 0} → (X → Call) → (ℕ → X) → Mistake → 
 with_one {X} call make' m o = line_with (and_then {X = X} (and_then (ok_or o m) (λ n. Ok (make' n))) (λ x. Ok (call x)))
 
 abbrev makes : QueueKind → Option ℕ → Result (Option Call) Mistake
-makes k o = line_with (and_then {X = Making} (and_then (ok_or o NotANumber) (making k)) (λ m. Ok (make m)))
+makes k o =
+    line_with (and_then {X = Making} (and_then {X = QueueKind × ℕ} (and_then (ok_or o NotANumber) (λ n. Ok (k, n))) (λ p. making p.0 p.1)) (λ m. Ok (make m)))
 
 makes_back : (k : QueueKind) (n : ℕ) → n ≤ 2097152 → makes k (below (2 ^ 64) (decimal n)) ≡ Ok (Some (make (record { kind = k; length = n })))
 makes_back k n few =

@@ -17,7 +17,7 @@ use Rattle.script.specs.declared.request.Making.{Making}
 use Rattle.script.specs.declared.request.Request.{Request}
 use Rattle.script.specs.declared.request.Request.TheVariants as request
 use Rattle.script.specs.Names.{name_of}
-use Rattle.script.specs.Operands.{no_operand, one_number, one_byte, number_and_byte, kind_and_length, hex_operand}
+use Rattle.script.specs.Operands.{no_operand, one, two, number, byte, kind_and_length, hex_operand}
 use Rattle.script.specs.Reading.{and_then}
 
 -- A command, with an image as the list of its bytes.
@@ -43,15 +43,15 @@ may_call_of = option_map call_of
 -- What a name and the words behind it say: a question to a table, a request to a queue, a command.
 abbrev pub asks : Asked → List (List ℕ) → Result Question Mistake
 asks States ws = and_then (no_operand ws) (λ _. Ok question.States)
-asks Next ws = and_then (number_and_byte ws) (λ p. Ok (question.Next p.0 p.1))
-asks Label ws = and_then (one_number ws) (λ s. Ok (question.Label s))
+asks Next ws = and_then (two number byte ws) (λ p. Ok (question.Next p.0 p.1))
+asks Label ws = and_then (one number ws) (λ s. Ok (question.Label s))
 
 abbrev pub requests : Requested → List (List ℕ) → Result Request Mistake
 requests Count ws = and_then (no_operand ws) (λ _. Ok request.Count)
 requests Limit ws = and_then (no_operand ws) (λ _. Ok request.Limit)
-requests Element ws = and_then (one_number ws) (λ p. Ok (request.Element p))
-requests Put ws = and_then (one_byte ws) (λ b. Ok (request.Put b))
-requests Drop ws = and_then (one_number ws) (λ k. Ok (request.Drop k))
+requests Element ws = and_then (one number ws) (λ p. Ok (request.Element p))
+requests Put ws = and_then (one byte ws) (λ b. Ok (request.Put b))
+requests Drop ws = and_then (one number ws) (λ k. Ok (request.Drop k))
 
 abbrev pub takes : Name → List (List ℕ) → Result Call Mistake
 takes Share ws = and_then (no_operand ws) (λ _. Ok share)

@@ -1,5 +1,5 @@
 -- The lines of a script.
-use Rattle.std.specs.Prelude.{◌≡◌, ℕ, ◌<◌, ◌≤◌, cond, List, [], ◌∷◌, length, ◌==◌, ◌≢◌, slice_index}
+use Rattle.std.specs.Prelude.{ℕ, cond, List, [], ◌∷◌, ◌==◌}
 
 -- Lines with one byte more in front.
 abbrev pub onto : ℕ → List (List ℕ) → List (List ℕ)
@@ -10,9 +10,3 @@ onto b (l ∷ ls) = (b ∷ l) ∷ ls
 abbrev pub lines : List ℕ → List (List ℕ)
 lines [] = []
 lines (b ∷ bs) = cond (b == 10) ([] ∷ lines bs) (onto b (lines bs))
-
--- The first n bytes hold no LF, and one stands behind them, or nothing.
-pub record BeforeEnd (script : List ℕ) (n : ℕ) : Type 0 where
-  pub within : n ≤ length script
-  pub inside : (k : ℕ) → k < n → slice_index script k ≢ 10
-  pub stops : n < length script → slice_index script n ≡ 10

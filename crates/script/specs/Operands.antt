@@ -28,27 +28,28 @@ two_words (w ∷ v ∷ []) = Ok (w, v)
 two_words (w ∷ v ∷ u ∷ ws) = Err TooManyWords
 
 -- The words are counted first, and then read from left to right.
+abbrev pub one : {X : Type 0} → (List ℕ → Result X Mistake) → List (List ℕ) → Result X Mistake
+one reads ws = and_then (one_word ws) reads
+
+abbrev pub two : {X Y : Type 0} → (List ℕ → Result X Mistake) → (List ℕ → Result Y Mistake) → List (List ℕ) → Result (X × Y) Mistake
+two first second ws = and_then (two_words ws) (λ p. and_then (first p.0) (λ x. and_then (second p.1) (λ y. Ok (x, y))))
+
+-- What a word writes: a number, a byte, a kind of queue.
 abbrev pub number : List ℕ → Result ℕ Mistake
 number w = ok_or (number_of w) NotANumber
 
 abbrev pub byte : List ℕ → Result ℕ Mistake
 byte w = ok_or (byte_of w) NotAByte
 
-abbrev pub one_number : List (List ℕ) → Result ℕ Mistake
-one_number ws = and_then (one_word ws) number
-
-abbrev pub one_byte : List (List ℕ) → Result ℕ Mistake
-one_byte ws = and_then (one_word ws) byte
+abbrev pub kind : List ℕ → Result QueueKind Mistake
+kind w = ok_or (kind_of w) NoSuchKind
 
 -- At most 2,097,152 bytes of memory.
 abbrev pub making : QueueKind → ℕ → Result Making Mistake
 making k n = cond (nat_lt 2097152 n) (Err TooMuchMemory) (Ok (record { kind = k; length = n }))
 
 abbrev pub kind_and_length : List (List ℕ) → Result Making Mistake
-kind_and_length ws = and_then (two_words ws) (λ p. and_then (ok_or (kind_of p.0) NoSuchKind) (λ k. and_then (number p.1) (making k)))
-
-abbrev pub number_and_byte : List (List ℕ) → Result (ℕ × ℕ) Mistake
-number_and_byte ws = and_then (two_words ws) (λ p. and_then (number p.0) (λ n. and_then (byte p.1) (λ b. Ok (n, b))))
+kind_and_length ws = and_then (two kind number ws) (λ p. making p.0 p.1)
 
 -- Any number of words, which write bytes together.
 abbrev pub hex_operand : List (List ℕ) → Result (List ℕ) Mistake

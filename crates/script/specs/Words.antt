@@ -1,5 +1,6 @@
 -- The words of a line.
-use Rattle.std.specs.Prelude.{◌≡◌, ℕ, ◌<◌, ◌≤◌, Bool, false, cond, not, ◌||◌, List, [], ◌∷◌, ◌++◌, length, ◌==◌, slice_index}
+use Rattle.std.specs.Prelude.{ℕ, Bool, false, cond, not, ◌||◌, List, [], ◌∷◌, ◌==◌}
+use Rattle.std.specs.List.{flat_map}
 
 -- What separates words: a space, a tab or a CR.
 abbrev pub blank : ℕ → Bool
@@ -22,11 +23,4 @@ words (b ∷ bs) = cond (blank b) (words bs) (with b (begins bs) (words bs))
 
 -- Words that stand together, with nothing between them.
 abbrev pub joined : List (List ℕ) → List ℕ
-joined [] = []
-joined (w ∷ ws) = w ++ joined ws
-
--- The first n bytes of a line are blanks, or none of them is, and the byte behind them is otherwise.
-pub record Front (line : List ℕ) (blanks : Bool) (n : ℕ) : Type 0 where
-  pub within : n ≤ length line
-  pub alike : (k : ℕ) → k < n → blank (slice_index line k) ≡ blanks
-  pub stops : n < length line → blank (slice_index line n) ≡ not blanks
+joined = flat_map (λ w. w)

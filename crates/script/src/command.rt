@@ -6,11 +6,9 @@ ghost use Rattle.std.specs.Prelude.{◌≡◌, Ok, Err};
 
 use crate::mistake::{Mistake, Unread};
 use crate::name::{Asked, Name, Requested};
-use crate::operands::{
-    hex_bytes, kind_and_length, no_operand, number_and_byte, one_byte, one_number,
-};
+use crate::operands::{hex_bytes, kind_and_length, no_operand, one, two};
 use crate::request::{Making, Request};
-use crate::words::first_word;
+use crate::words::Words;
 use std::alloc::Global;
 
 // What can be asked of every rule table.
@@ -42,82 +40,55 @@ pub enum Command {
 fn is_comment(word: &[u8]) -> bool
     ensures { result ≡ comment word.now }
 {
-    match word {
-        [first, ..] => *first == b'#',
-        [] => false,
-    }
+    word.starts_with(b"#")
 }
 
 impl Question {
-    // The question of a name, with the operands that the words of `rest` write.
-    fn with_operands(asked: Asked, rest: &[u8]) -> Result<Question, Mistake>
-        ensures { result ≡ asks asked (words rest.now) }
+    // The question of a name, with the operands that the words write.
+    fn with_operands(asked: Asked, words: Words) -> Result<Question, Mistake>
+        ensures { result ≡ asks asked words.entry }
     {
         match asked {
-            Asked::States => {
-                no_operand(rest)?;
-                Ok(Question::States)
-            }
-            Asked::Next => {
-                let (state, byte) = number_and_byte(rest)?;
-                Ok(Question::Next { state, byte })
-            }
-            Asked::Label => {
-                let state = one_number(rest)?;
-                Ok(Question::Label { state })
-            }
+            Asked::States => no_operand(words).map(|()| Question::States),
+            Asked::Next => two(words).map(|(state, byte)| Question::Next { state, byte }),
+            Asked::Label => one(words).map(|state| Question::Label { state }),
         }
     }
 }
 
 impl Request {
-    // The request of a name, with the operands that the words of `rest` write.
-    fn with_operands(requested: Requested, rest: &[u8]) -> Result<Request, Mistake>
-        ensures { result ≡ requests requested (words rest.now) }
+    // The request of a name, with the operands that the words write.
+    fn with_operands(requested: Requested, words: Words) -> Result<Request, Mistake>
+        ensures { result ≡ requests requested words.entry }
     {
         match requested {
-            Requested::Count => {
-                no_operand(rest)?;
-                Ok(Request::Count)
-            }
-            Requested::Limit => {
-                no_operand(rest)?;
-                Ok(Request::Limit)
-            }
-            Requested::Element => {
-                let place = one_number(rest)?;
-                Ok(Request::Element { place })
-            }
-            Requested::Put => {
-                let byte = one_byte(rest)?;
-                Ok(Request::Put { byte })
-            }
-            Requested::Drop => {
-                let count = one_number(rest)?;
-                Ok(Request::Drop { count })
-            }
+            Requested::Count => no_operand(words).map(|()| Request::Count),
+            Requested::Limit => no_operand(words).map(|()| Request::Limit),
+            Requested::Element => one(words).map(|place| Request::Element { place }),
+            Requested::Put => one(words).map(|byte| Request::Put { byte }),
+            Requested::Drop => one(words).map(|count| Request::Drop { count }),
         }
     }
 }
 
 impl Command {
-    // The command of a name, with the operands that the words of `rest` write.
-    fn with_operands(heap: Global, name: Name, rest: &[u8]) -> Result<Command, Unread>
-        ensures { Reads result (λ command. takes name (words rest.now) ≡ Ok (call_of command)) (λ mistake. takes name (words rest.now) ≡ Err mistake) }
+    // The command of a name, with the operands that the words write.
+    fn with_operands(heap: Global, name: Name, words: Words) -> Result<Command, Unread>
+        ensures { Reads result (λ command. takes name words.entry ≡ Ok (call_of command)) (λ mistake. takes name words.entry ≡ Err mistake) }
     {
         match name {
             Name::Share => {
-                no_operand(rest)?;
+                no_operand(words)?;
                 Ok(Command::Share)
             }
-            Name::Load => Ok(Command::Load(hex_bytes(heap, rest)?)),
+            Name::Load => Ok(Command::Load(hex_bytes(heap, words)?)),
             Name::Table => {
-                no_operand(rest)?;
+                no_operand(words)?;
                 Ok(Command::Table)
             }
-            Name::Ask(asked) => Ok(Command::Ask(Question::with_operands(asked, rest)?)),
-            Name::Make => Ok(Command::Make(kind_and_length(rest)?)),
-            Name::Queue(requested) => Ok(Command::Queue(Request::with_operands(requested, rest)?)),
+            Name::Ask(asked) => Ok(Command::Ask(Question::with_operands(asked, words)?)),
+            Name::Make => Ok(Command::Make(kind_and_length(words)?)),
+            Name::Queue(requested) => Ok(Command::Queue(Request::with_operands(requested, words)?)),
         }
     }
 
@@ -125,7 +96,8 @@ impl Command {
     pub fn read(heap: Global, line: &[u8]) -> Result<Option<Command>, Unread>
         ensures { Reads result (λ command. says (words line.now) ≡ Ok (may_call_of command)) (λ mistake. says (words line.now) ≡ Err mistake) }
     {
-        let Some((word, rest)) = first_word(line) else {
+        let mut words = Words::new(line);
+        let Some(word) = words.next() else {
             return Ok(None);
         };
         if is_comment(word) {
@@ -134,7 +106,7 @@ impl Command {
         let Some(name) = Name::of(word) else {
             return Err(Unread::Wrong(Mistake::NoSuchCommand));
         };
-        let command = Command::with_operands(heap, name, rest)?;
+        let command = Command::with_operands(heap, name, words)?;
         Ok(Some(command))
     }
 }

@@ -1,92 +1,111 @@
 // The operands of commands: the words behind a name.
-ghost use Rattle.script.specs.Operands.{hex_operand, kind_and_length, no_operand, number_and_byte, one_byte, one_number, one_word, two_words};
+ghost use Rattle.script.specs.Operands.{byte, hex_operand, kind, kind_and_length, no_operand, number, one, one_word, two, two_words};
 ghost use Rattle.script.specs.Reading.{Reads};
-ghost use Rattle.script.specs.Words.{words};
-ghost use Rattle.std.specs.Prelude.{◌≡◌, Ok, Err, MatchResult};
+ghost use Rattle.std.specs.Prelude.{◌≡◌, Ok, Err, ℕ, List, MatchResult, Result};
+ghost use Rattle.script.specs.declared.mistake.Mistake.{Mistake};
 
 use crate::mistake::{Mistake, Unread};
 use crate::request::{Making, QueueKind};
-use crate::words::first_word;
+use crate::words::Words;
 use crate::{hex, number};
 use std::alloc::Global;
 
 // The most bytes of memory that a script may ask for.
 const MOST_MEMORY: usize = 2_097_152;
 
-// No operand: no word is left.
-pub(crate) fn no_operand(rest: &[u8]) -> Result<(), Mistake>
-    ensures { result ≡ no_operand (words rest.now) }
-{
-    if first_word(rest).is_some() {
-        return Err(Mistake::TooManyWords);
+// What one word can write. A trait of this crate's own, since `TryFrom` cannot be given to numbers here.
+pub(crate) trait Operand: Sized {
+    ghost reads: { List ℕ → Result Self Mistake };
+
+    fn read(word: &[u8]) -> Result<Self, Mistake>
+        ensures { result ≡ reads word.now };
+}
+
+impl Operand for usize {
+    ghost reads = { number };
+
+    fn read(word: &[u8]) -> Result<usize, Mistake> {
+        number::number(word).ok_or(Mistake::NotANumber)
     }
-    Ok(())
+}
+
+impl Operand for u8 {
+    ghost reads = { byte };
+
+    fn read(word: &[u8]) -> Result<u8, Mistake> {
+        number::byte(word).ok_or(Mistake::NotAByte)
+    }
+}
+
+impl Operand for QueueKind {
+    ghost reads = { kind };
+
+    fn read(word: &[u8]) -> Result<QueueKind, Mistake> {
+        QueueKind::of(word).ok_or(Mistake::NoSuchKind)
+    }
+}
+
+// No operand: no word is left.
+pub(crate) fn no_operand(mut words: Words) -> Result<(), Mistake>
+    ensures { result ≡ no_operand words.entry }
+{
+    match words.next() {
+        None => Ok(()),
+        Some(_) => Err(Mistake::TooManyWords),
+    }
 }
 
 // The only word that is left.
-fn one_word(rest: &[u8]) -> Result<&[u8], Mistake>
-    ensures { MatchResult result (λ word. one_word (words rest.now) ≡ Ok word.now) (λ mistake. one_word (words rest.now) ≡ Err mistake) }
+fn one_word<'a>(mut words: Words<'a>) -> Result<&'a [u8], Mistake>
+    ensures { MatchResult result (λ word. one_word words.entry ≡ Ok word.now) (λ mistake. one_word words.entry ≡ Err mistake) }
 {
-    let Some((word, behind)) = first_word(rest) else {
-        return Err(Mistake::TooFewWords);
-    };
-    no_operand(behind)?;
+    let word = words.next().ok_or(Mistake::TooFewWords)?;
+    no_operand(words)?;
     Ok(word)
 }
 
 // The only two words that are left.
-fn two_words(rest: &[u8]) -> Result<(&[u8], &[u8]), Mistake>
-    ensures { MatchResult result (λ pair. two_words (words rest.now) ≡ Ok (pair.0.now, pair.1.now)) (λ mistake. two_words (words rest.now) ≡ Err mistake) }
+fn two_words<'a>(mut words: Words<'a>) -> Result<(&'a [u8], &'a [u8]), Mistake>
+    ensures { MatchResult result (λ pair. two_words words.entry ≡ Ok (pair.0.now, pair.1.now)) (λ mistake. two_words words.entry ≡ Err mistake) }
 {
-    let Some((first, behind)) = first_word(rest) else {
-        return Err(Mistake::TooFewWords);
-    };
-    let second = one_word(behind)?;
+    let first = words.next().ok_or(Mistake::TooFewWords)?;
+    let second = one_word(words)?;
     Ok((first, second))
 }
 
-// One operand, a number.
-pub(crate) fn one_number(rest: &[u8]) -> Result<usize, Mistake>
-    ensures { result ≡ one_number (words rest.now) }
+// One operand.
+pub(crate) fn one<T: Operand>(words: Words) -> Result<T, Mistake>
+    ensures { result ≡ one T.reads words.entry }
 {
-    number::number(one_word(rest)?).ok_or(Mistake::NotANumber)
+    T::read(one_word(words)?)
 }
 
-// One operand, a byte.
-pub(crate) fn one_byte(rest: &[u8]) -> Result<u8, Mistake>
-    ensures { result ≡ one_byte (words rest.now) }
+// Two operands.
+pub(crate) fn two<A: Operand + Drop, B: Operand>(words: Words) -> Result<(A, B), Mistake>
+    ensures { result ≡ two A.reads B.reads words.entry }
 {
-    number::byte(one_word(rest)?).ok_or(Mistake::NotAByte)
+    let (first, second) = two_words(words)?;
+    let a = A::read(first)?;
+    let b = B::read(second)?;
+    Ok((a, b))
 }
 
 // Two operands, a kind of queue and how many bytes of memory it is to stand over.
-pub(crate) fn kind_and_length(rest: &[u8]) -> Result<Making, Mistake>
-    ensures { result ≡ kind_and_length (words rest.now) }
+pub(crate) fn kind_and_length(words: Words) -> Result<Making, Mistake>
+    ensures { result ≡ kind_and_length words.entry }
 {
-    let (first, second) = two_words(rest)?;
-    let kind = QueueKind::of(first).ok_or(Mistake::NoSuchKind)?;
-    let length = number::number(second).ok_or(Mistake::NotANumber)?;
+    let (kind, length) = two(words)?;
     if length > MOST_MEMORY {
         return Err(Mistake::TooMuchMemory);
     }
     Ok(Making { kind, length })
 }
 
-// Two operands, a number and a byte.
-pub(crate) fn number_and_byte(rest: &[u8]) -> Result<(usize, u8), Mistake>
-    ensures { result ≡ number_and_byte (words rest.now) }
-{
-    let (first, second) = two_words(rest)?;
-    let number = number::number(first).ok_or(Mistake::NotANumber)?;
-    let byte = number::byte(second).ok_or(Mistake::NotAByte)?;
-    Ok((number, byte))
-}
-
 // Bytes in hexadecimal, in any number of words.
-pub(crate) fn hex_bytes(heap: Global, rest: &[u8]) -> Result<Vec<u8>, Unread>
-    ensures { Reads result (λ bytes. hex_operand (words rest.now) ≡ Ok bytes.items) (λ mistake. hex_operand (words rest.now) ≡ Err mistake) }
+pub(crate) fn hex_bytes(heap: Global, words: Words) -> Result<Vec<u8>, Unread>
+    ensures { Reads result (λ bytes. hex_operand words.entry ≡ Ok bytes.items) (λ mistake. hex_operand words.entry ≡ Err mistake) }
 {
-    match hex::bytes(heap, rest)? {
+    match hex::bytes(heap, words)? {
         Some(bytes) => Ok(bytes),
         None => Err(Unread::Wrong(Mistake::NotHexadecimal)),
     }

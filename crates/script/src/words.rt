@@ -1,34 +1,67 @@
 // Cutting a line into words.
-ghost use Rattle.script.specs.Words.{blank, Front, words};
-ghost use Rattle.std.specs.Prelude.{◌≡◌, [], ◌∷◌, MatchOption};
+ghost use Rattle.script.specs.Words.{blank, words};
+ghost use Rattle.std.specs.Iterator.{item_count, YieldsFirstRef};
+ghost use Rattle.std.specs.Prelude.{◌≡◌, not, position};
+
+use std::marker::Model;
 
 // Whether `byte` separates words: a space, a tab or a carriage return.
-pub(crate) fn is_blank(byte: u8) -> bool
+fn is_blank(byte: u8) -> bool
     ensures { result ≡ blank byte }
 {
-    byte == b' ' || byte == b'\t' || byte == b'\r'
+    matches!(byte, b' ' | b'\t' | b'\r')
 }
 
-// How many bytes stand in front of the first that is a blank, or where `blanks` holds, of the first that is none.
-fn front(line: &[u8], blanks: bool) -> usize
-    ensures { Front line.now blanks result }
+// The place of the first byte that is no blank, if there is one.
+fn word_start(line: &[u8]) -> Option<usize>
+    ensures { result ≡ position (λ b. not (blank b)) line.now }
 {
-    for (i, byte) in line.iter().enumerate() {
-        if is_blank(*byte) != blanks {
-            return i;
-        }
-    }
-    line.len()
+    line.iter().position(|byte| !is_blank(*byte))
 }
 
-// The first word of a line and what stands behind it, or `None` where the line has no word.
-pub(crate) fn first_word(line: &[u8]) -> Option<(&[u8], &[u8])>
-    ensures { MatchOption result (words line.now ≡ []) (λ cut. words line.now ≡ cut.0.now ∷ words cut.1.now) }
+// The place of the first blank, if there is one.
+fn word_end(text: &[u8]) -> Option<usize>
+    ensures { result ≡ position blank text.now }
 {
-    let (_, text) = line.split_at(front(line, true));
-    let size = front(text, false);
-    if size == 0 {
-        return None;
+    text.iter().position(|byte| is_blank(*byte))
+}
+
+// The words of a line, one after another: those that are left.
+#[derive(Drop)]
+pub(crate) struct Words<'a> {
+    rest: &'a [u8],
+}
+
+impl<'a> Model for Words<'a> {
+    ghost use Rattle.script.specs.Words.{words};
+    ghost use Rattle.std.specs.Prelude.{ℕ, List};
+
+    ghost Value = { List (List ℕ) };
+
+    ghost view = { λ w. words w.rest.now };
+}
+
+impl<'a> Words<'a> {
+    // All words of a line.
+    pub(crate) fn new(line: &'a [u8]) -> Words<'a>
+        ensures { result ≡ words line.now }
+    {
+        Words { rest: line }
     }
-    Some(text.split_at(size))
+}
+
+impl<'a> Iterator for Words<'a> {
+    type Item = &'a [u8];
+
+    ghost next_gives = { YieldsFirstRef (λ left. left) };
+
+    ghost remaining = { item_count (λ left. left) };
+
+    // The first word that is left.
+    fn next(&mut self) -> Option<&'a [u8]> {
+        let (_, text) = self.rest.split_at(word_start(self.rest)?);
+        let (word, behind) = text.split_at(word_end(text).unwrap_or(text.len()));
+        self.rest = behind;
+        Some(word)
+    }
 }

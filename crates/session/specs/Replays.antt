@@ -1,10 +1,10 @@
 -- What a whole script prints.
-use Rattle.std.specs.Prelude.{◌≡◌, ℕ, ◌+◌, ◌^◌, ◌<◌, List, [], ◌∷◌, ◌++◌, length, Some, None, Option}
-use Rattle.std.specs.Borrow.{Bor}
+use Rattle.std.specs.Iterator.Adapters.{enumerate_count, enumerate_source}
+use Rattle.std.specs.Prelude.{◌≡◌, ℕ, ◌+◌, ◌<◌, List, [], ◌∷◌, ◌++◌, length, Some, None, Option, string_bytes}
 use Rattle.queues.specs.Queue.{Held}
-use Rattle.script.specs.Lines.{lines}
 use Rattle.script.specs.declared.request.Making.{Making}
 use Rattle.script.specs.declared.request.QueueKind.TheVariants.{Ring}
+use Rattle.session.specs.declared.player.Player.{Player}
 use Rattle.session.specs.declared.session.Outcome.{Outcome}
 use Rattle.session.specs.declared.session.Session.{Session}
 use Rattle.session.specs.Sessions.{Fresh, Plays, after_making, fresh, making_of}
@@ -39,9 +39,12 @@ Leads a b = (more : List ℕ) → Onward b more → (text : List ℕ) × Onward 
 abbrev pub stage : Session → Held ℕ → ℕ → List (List ℕ) → List ℕ → Stage
 stage s q n ls printed = record { session = s; queue = q; number = n; left = ls; printed = printed }
 
--- What comes of the lines of a script of some size, played from stage a on over one queue, which then means q: all are
--- played; or one of them says that a new queue is to be made, and others stand behind it.
-abbrev pub PlayedOver : Stage → ℕ → Session → ℕ → List ℕ → Held ℕ → Option (Making × Bor (List ℕ)) → Type 0
-PlayedOver a size s n printed q None = Leads a (stage s q n [] printed)
-PlayedOver a size s n printed q (Some next) =
-    Leads a (stage s (fresh next.0) n (lines next.1.now) printed) × (n + length next.1.now < 2 ^ 64) × (length next.1.now < size)
+-- How far a player has come, over a queue that means q.
+abbrev pub stage_of : Player → Held ℕ → Stage
+stage_of p q = stage p.session q (enumerate_count p.lines) (enumerate_source p.lines) (string_bytes p.printed)
+
+-- What comes of the lines that are left at stage a, played over one queue up to stage b: all are played; or one of them
+-- says that a new queue is to be made, and fewer are left.
+abbrev pub PlayedOver : Stage → Stage → Option Making → Type 0
+PlayedOver a b None = Leads a b × (b.left ≡ [])
+PlayedOver a b (Some m) = Leads a (stage b.session (fresh m) b.number b.left b.printed) × (length b.left < length a.left)

@@ -2,6 +2,7 @@
 #![tactic(auto)]
 
 pub mod answer;
+mod player;
 pub mod replay;
 pub mod session;
 pub mod text;

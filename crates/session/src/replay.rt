@@ -1,16 +1,17 @@
 // Playing a whole script, and what it prints.
 ghost use Rattle.script.specs.Lines.{lines};
-ghost use Rattle.session.specs.Replays.{PlayedOver, Replays, stage};
-ghost use Rattle.session.specs.Sessions.{fresh};
+ghost use Rattle.session.specs.Replays.{PlayedOver, Replays, stage, stage_of};
+ghost use Rattle.session.specs.Sessions.{Fresh, fresh};
 ghost use Rattle.session.specs.Texts.{outcome_text};
 ghost use Rattle.queues.specs.Queue.{Held};
-ghost use Rattle.std.specs.Prelude.{◌≡◌, ℕ, ◌+◌, ◌^◌, ◌<◌, length, IfOk, string_bytes};
+ghost use Rattle.std.specs.Prelude.{◌≡◌, ℕ, [], IfOk, string_bytes};
 
+use crate::player::Player;
 use crate::session::{Outcome, Session};
 use queues::queue::Queue;
 use queues::ring::Ring;
 use queues::straight::Straight;
-use script::lines::first_line;
+use script::lines::Lines;
 use script::request::{Making, QueueKind};
 use std::alloc::{AllocError, Global};
 
@@ -25,58 +26,44 @@ pub fn print(heap: Global, number: usize, outcome: Outcome) -> Result<String, Al
     }
 }
 
-// A script that is being played: how many lines were played, and what they printed.
-#[derive(Drop)]
-struct Player {
-    session: Session,
-    number: usize,
-    printed: String,
-}
-
-// Plays the lines of a script over one queue, up to a line that makes another: gives that one and what stands behind.
-fn play_over<'a, Q: Queue<u8>>(
-    heap: Global,
-    player: &mut Player,
-    queue: &mut Q,
-    script: &'a [u8],
-) -> Result<Option<(Making, &'a [u8])>, AllocError>
-    requires { player.old.number + length script.now < 2 ^ 64 }
-    ensures { IfOk result (PlayedOver (stage player.old.session (Q.meaning queue.old) player.old.number (lines script.now) (string_bytes player.old.printed)) (length script.now) player.new.session player.new.number (string_bytes player.new.printed) (Q.meaning queue.new)) }
-{
-    let mut rest = script;
-    while let Some((line, behind)) = first_line(rest) {
-        player.number += 1;
-        let outcome = player.session.play(queue, heap, line)?;
-        let making = outcome.making();
-        let text = print(heap, player.number, outcome)?;
-        player.printed.push_str(text.as_str())?;
-        rest = behind;
-        if let Some(making) = making {
-            return Ok(Some((making, rest)));
+impl<'a> Player<'a> {
+    // Before the first line of a script.
+    fn new(heap: Global, script: &'a [u8]) -> Player<'a>
+        ensures fresh { Fresh result.session }
+        ensures first { (q : Held ℕ) → stage_of result q ≡ stage result.session q 0 (lines script.now) [] }
+    {
+        Player {
+            heap,
+            session: Session::new(),
+            lines: Lines::new(script).enumerate(),
+            printed: String::new(heap),
         }
     }
-    Ok(None)
-}
 
-// Plays the lines of a script over a new queue, up to a line that makes another.
-fn play_new<'a>(
-    heap: Global,
-    player: &mut Player,
-    making: Making,
-    script: &'a [u8],
-) -> Result<Option<(Making, &'a [u8])>, AllocError>
-    requires { player.old.number + length script.now < 2 ^ 64 }
-    ensures { IfOk result (λ end. (q : Held ℕ) × PlayedOver (stage player.old.session (fresh making) player.old.number (lines script.now) (string_bytes player.old.printed)) (length script.now) player.new.session player.new.number (string_bytes player.new.printed) q end) }
-{
-    let mut memory = vec![in heap; 0u8; making.length]?;
-    match making.kind {
-        QueueKind::Ring => {
-            let mut ring = Ring::new(memory.as_mut_slice());
-            play_over(heap, player, &mut ring, script)
+    // Plays the lines that are left over one queue, up to a line that makes another, and gives that one.
+    fn play_over<Q: Queue<u8>>(&mut self, queue: &mut Q) -> Result<Option<Making>, AllocError>
+        ensures { IfOk result (PlayedOver (stage_of self.old (Q.meaning queue.old)) (stage_of self.new (Q.meaning queue.new))) }
+    {
+        while let Some((played, line)) = self.lines.next() {
+            let outcome = self.session.play(queue, self.heap, line)?;
+            let making = outcome.making();
+            let text = print(self.heap, played + 1, outcome)?;
+            self.printed.push_str(text.as_str())?;
+            if making.is_some() {
+                return Ok(making);
+            }
         }
-        QueueKind::Straight => {
-            let mut straight = Straight::new(memory.as_mut_slice());
-            play_over(heap, player, &mut straight, script)
+        Ok(None)
+    }
+
+    // Plays the lines that are left over a new queue, up to a line that makes another, and gives that one.
+    fn play_new(&mut self, making: Making) -> Result<Option<Making>, AllocError>
+        ensures { IfOk result (λ next. (q : Held ℕ) × PlayedOver (stage_of self.old (fresh making)) (stage_of self.new q) next) }
+    {
+        let mut memory = vec![in self.heap; 0u8; making.length]?;
+        match making.kind {
+            QueueKind::Ring => self.play_over(&mut Ring::new(memory.as_mut_slice())),
+            QueueKind::Straight => self.play_over(&mut Straight::new(memory.as_mut_slice())),
         }
     }
 }
@@ -85,19 +72,13 @@ fn play_new<'a>(
 pub fn replay(heap: Global, script: &[u8]) -> Result<String, AllocError>
     ensures { IfOk result (λ text. Replays (lines script.now) (string_bytes text)) }
 {
-    let mut player = Player {
-        session: Session::new(),
-        number: 0,
-        printed: String::new(heap),
-    };
+    let mut player = Player::new(heap, script);
     let mut making = Making {
         kind: QueueKind::Ring,
         length: 0,
     };
-    let mut rest = script;
-    while let Some((next, behind)) = play_new(heap, &mut player, making, rest)? {
+    while let Some(next) = player.play_new(making)? {
         making = next;
-        rest = behind;
     }
     let Player { printed, .. } = player;
     Ok(printed)
