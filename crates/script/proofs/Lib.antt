@@ -2,7 +2,6 @@ pub mod Cutting
 pub mod Ending
 pub mod Fronts
 pub mod Pairing
-pub mod Saying
-pub mod Spelled
+pub mod ReadingBack
 pub mod Standing
 pub mod Valued

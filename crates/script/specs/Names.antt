@@ -1,5 +1,6 @@
 -- The names of the commands.
-use Rattle.std.specs.Prelude.{ℕ, cond, List, [], ◌∷◌, Some, None, codes, Option}
+use Rattle.std.specs.List.{find}
+use Rattle.std.specs.Prelude.{ℕ, List, [], ◌∷◌, codes, Option}
 use Rattle.std.specs.Str.{bytes_eq}
 use Rattle.script.specs.declared.name.Name.{Name}
 use Rattle.script.specs.declared.name.Name.TheVariants.{Share, Load, Table, Ask, Make, Queue}
@@ -25,10 +26,6 @@ abbrev pub names : List Name
 names =
     Share ∷ Load ∷ Table ∷ Ask States ∷ Ask Next ∷ Ask Label ∷ Make ∷ Queue Count ∷ Queue Limit ∷ Queue Element ∷ Queue Put ∷ Queue Drop ∷ []
 
--- The name among others that a word spells.
-abbrev pub among : List Name → List ℕ → Option Name
-among [] word = None
-among (n ∷ ns) word = cond (bytes_eq word (spelled n)) (Some n) (among ns word)
-
+-- The name that a word spells.
 abbrev pub name_of : List ℕ → Option Name
-name_of = among names
+name_of word = find (λ name. bytes_eq word (spelled name)) names

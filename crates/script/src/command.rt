@@ -4,10 +4,12 @@ ghost use Rattle.script.specs.Reading.{Reads};
 ghost use Rattle.script.specs.Words.{words};
 ghost use Rattle.std.specs.Prelude.{◌≡◌, Ok, Err};
 
+use crate::hex::hex_bytes;
 use crate::mistake::{Mistake, Unread};
 use crate::name::{Asked, Name, Requested};
-use crate::operands::{hex_bytes, kind_and_length, no_operand, one, two};
+use crate::operands::{kind_and_length, no_operand, one, two};
 use crate::request::{Making, Request};
+use crate::spelled::Spelled;
 use crate::words::Words;
 use std::alloc::Global;
 
@@ -44,7 +46,8 @@ fn is_comment(word: &[u8]) -> bool
 }
 
 impl Question {
-    // The question of a name, with the operands that the words write.
+    // The question of a name, with the operands that the words write. It shares no trait with the two below: nothing is
+    // generic in what they give, and the third may run out of memory.
     fn with_operands(asked: Asked, words: Words) -> Result<Question, Mistake>
         ensures { result ≡ asks asked words.entry }
     {
@@ -103,9 +106,7 @@ impl Command {
         if is_comment(word) {
             return Ok(None);
         }
-        let Some(name) = Name::of(word) else {
-            return Err(Unread::Wrong(Mistake::NoSuchCommand));
-        };
+        let name = Name::of(word).ok_or(Mistake::NoSuchCommand)?;
         let command = Command::with_operands(heap, name, words)?;
         Ok(Some(command))
     }

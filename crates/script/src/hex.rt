@@ -1,22 +1,19 @@
 // Bytes, written in hexadecimal.
 ghost use Rattle.script.specs.Hex.{hex_bytes, hex_digit};
+ghost use Rattle.script.specs.Operands.{hex_operand};
+ghost use Rattle.script.specs.Reading.{Reads};
 ghost use Rattle.script.specs.Words.{joined};
-ghost use Rattle.std.specs.Prelude.{◌≡◌, ◌<◌, ◌≤◌, [], ◌∷◌, length, IfOk, MatchOption};
-ghost use Rattle.std.specs.Option.{option_map};
+ghost use Rattle.std.specs.Prelude.{◌≡◌, ◌<◌, ◌≤◌, [], ◌∷◌, length, Ok, Err, IfOk, MatchOption};
 
+use crate::mistake::{Mistake, Unread};
 use crate::words::Words;
 use std::alloc::{AllocError, Global};
 
 // The value of a hexadecimal digit.
-fn digit(byte: u8) -> Option<u8>
+fn digit(byte: u8) -> Option<u32>
     ensures { result ≡ hex_digit byte }
 {
-    match byte {
-        b'0'..=b'9' => Some(byte - b'0'),
-        b'a'..=b'f' => Some(byte - b'a' + 10),
-        b'A'..=b'F' => Some(byte - b'A' + 10),
-        _ => None,
-    }
+    char::from(byte).to_digit(16)
 }
 
 // The bytes of words, with nothing between them.
@@ -33,22 +30,20 @@ fn byte(digits: &[u8]) -> Option<u8>
     ensures { MatchOption result (hex_bytes digits.now ≡ None) (λ byte. hex_bytes digits.now ≡ Some (byte ∷ [])) }
 {
     match digits {
-        [high, low] => Some(digit(*high)? * 16 + digit(*low)?),
+        [high, low] => Some((digit(*high)? * 16 + digit(*low)?) as u8),
         _ => None,
     }
 }
 
-// The bytes that words write together, two digits for each, or `None` where they write none.
-pub(crate) fn bytes(heap: Global, words: Words) -> Result<Option<Vec<u8>>, AllocError>
-    ensures { IfOk result (λ o. option_map (λ v. v.items) o ≡ hex_bytes (joined words.entry)) }
+// The bytes that words write together, two digits for each.
+pub(crate) fn hex_bytes(heap: Global, words: Words) -> Result<Vec<u8>, Unread>
+    ensures { Reads result (λ bytes. hex_operand words.entry ≡ Ok bytes.items) (λ mistake. hex_operand words.entry ≡ Err mistake) }
 {
     let digits = join(heap, words)?;
     let mut bytes = Vec::new(heap);
     for pair in digits.chunks(2) {
-        let Some(byte) = byte(pair) else {
-            return Ok(None);
-        };
-        bytes.push(byte)?;
+        let byte = byte(pair).ok_or(Mistake::NotHexadecimal)?;
+        bytes.push(byte).map_err(AllocError::from)?;
     }
-    Ok(Some(bytes))
+    Ok(bytes)
 }

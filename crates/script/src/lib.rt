@@ -10,5 +10,6 @@ mod name;
 mod number;
 mod operands;
 pub mod request;
+pub mod spelled;
 pub mod text;
 mod words;

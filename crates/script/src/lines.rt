@@ -29,6 +29,7 @@ impl<'a> Model for Lines<'a> {
 
 impl<'a> Lines<'a> {
     // All lines of a script.
+    #[tactic(auto, using(crate::proofs::Ending::lines_few))]
     pub fn new(script: &'a [u8]) -> Lines<'a>
         ensures all { result ≡ lines script.now }
         ensures few { length result ≤ length script.now }

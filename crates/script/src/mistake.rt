@@ -24,6 +24,7 @@ pub enum Unread {
     Memory(AllocError),
 }
 
+// Both by hand and not derived, since clauses name the error that `?` makes.
 impl From<Mistake> for Unread {
     ghost from_gives = { λ mistake r. r ≡ Wrong mistake };
 

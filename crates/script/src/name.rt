@@ -1,8 +1,9 @@
 // The names of the commands.
-ghost use Rattle.script.specs.Names.{name_of, spelled};
-ghost use Rattle.std.specs.Prelude.{◌≡◌};
+ghost use Rattle.script.specs.Names.{names, spelled};
 
-// The name of a question to a table.
+use crate::spelled::Spelled;
+
+// The name of a question to a table. A `Question` has its operands too, which are read once the name is known.
 #[derive(Clone, Copy, PartialEq, Eq, Debug)]
 pub enum Asked {
     States,
@@ -10,7 +11,7 @@ pub enum Asked {
     Label,
 }
 
-// The name of a call on a queue.
+// The name of a call on a queue, as `Asked` is to a `Question`.
 #[derive(Clone, Copy, PartialEq, Eq, Debug)]
 pub enum Requested {
     Count,
@@ -31,27 +32,29 @@ pub enum Name {
     Queue(Requested),
 }
 
-// All names.
-static NAMES: [Name; 12] = [
-    Name::Share,
-    Name::Load,
-    Name::Table,
-    Name::Ask(Asked::States),
-    Name::Ask(Asked::Next),
-    Name::Ask(Asked::Label),
-    Name::Make,
-    Name::Queue(Requested::Count),
-    Name::Queue(Requested::Limit),
-    Name::Queue(Requested::Element),
-    Name::Queue(Requested::Put),
-    Name::Queue(Requested::Drop),
-];
+impl Spelled for Name {
+    ghost spelled = { spelled };
 
-impl Name {
-    // How the name is spelled.
-    pub(crate) fn spelling(self) -> &'static str
-        ensures { result.now ≡ spelled self }
-    {
+    ghost values = { names };
+
+    fn all() -> &'static [Name] {
+        &[
+            Name::Share,
+            Name::Load,
+            Name::Table,
+            Name::Ask(Asked::States),
+            Name::Ask(Asked::Next),
+            Name::Ask(Asked::Label),
+            Name::Make,
+            Name::Queue(Requested::Count),
+            Name::Queue(Requested::Limit),
+            Name::Queue(Requested::Element),
+            Name::Queue(Requested::Put),
+            Name::Queue(Requested::Drop),
+        ]
+    }
+
+    fn spelling(self) -> &'static str {
         match self {
             Name::Share => "share",
             Name::Load => "load",
@@ -66,17 +69,5 @@ impl Name {
             Name::Queue(Requested::Put) => "put",
             Name::Queue(Requested::Drop) => "drop",
         }
-    }
-
-    // The name that `word` spells, or `None` where it spells none.
-    pub(crate) fn of(word: &[u8]) -> Option<Name>
-        ensures { result ≡ name_of word.now }
-    {
-        for name in NAMES.iter() {
-            if word == name.spelling().as_bytes() {
-                return Some(*name);
-            }
-        }
-        None
     }
 }

@@ -1,19 +1,18 @@
 // The operands of commands: the words behind a name.
-ghost use Rattle.script.specs.Operands.{byte, hex_operand, kind, kind_and_length, no_operand, number, one, one_word, two, two_words};
-ghost use Rattle.script.specs.Reading.{Reads};
+ghost use Rattle.script.specs.Operands.{byte, kind, kind_and_length, no_operand, number, one, one_word, two, two_words};
 ghost use Rattle.std.specs.Prelude.{◌≡◌, Ok, Err, ℕ, List, MatchResult, Result};
 ghost use Rattle.script.specs.declared.mistake.Mistake.{Mistake};
 
-use crate::mistake::{Mistake, Unread};
+use crate::mistake::Mistake;
+use crate::number;
 use crate::request::{Making, QueueKind};
+use crate::spelled::Spelled;
 use crate::words::Words;
-use crate::{hex, number};
-use std::alloc::Global;
 
 // The most bytes of memory that a script may ask for.
 const MOST_MEMORY: usize = 2_097_152;
 
-// What one word can write. A trait of this crate's own, since `TryFrom` cannot be given to numbers here.
+// What one word can write. No `TryFrom`, since this crate cannot give that to numbers.
 pub(crate) trait Operand: Sized {
     ghost reads: { List ℕ → Result Self Mistake };
 
@@ -99,14 +98,4 @@ pub(crate) fn kind_and_length(words: Words) -> Result<Making, Mistake>
         return Err(Mistake::TooMuchMemory);
     }
     Ok(Making { kind, length })
-}
-
-// Bytes in hexadecimal, in any number of words.
-pub(crate) fn hex_bytes(heap: Global, words: Words) -> Result<Vec<u8>, Unread>
-    ensures { Reads result (λ bytes. hex_operand words.entry ≡ Ok bytes.items) (λ mistake. hex_operand words.entry ≡ Err mistake) }
-{
-    match hex::bytes(heap, words)? {
-        Some(bytes) => Ok(bytes),
-        None => Err(Unread::Wrong(Mistake::NotHexadecimal)),
-    }
 }

@@ -1,6 +1,7 @@
 // What a script asks of queues.
-ghost use Rattle.script.specs.Kinds.{kind_of, kind_spelled};
-ghost use Rattle.std.specs.Prelude.{◌≡◌};
+ghost use Rattle.script.specs.Kinds.{kind_spelled, kinds};
+
+use crate::spelled::Spelled;
 
 // A kind of queue.
 #[derive(Clone, Copy, PartialEq, Eq, Debug)]
@@ -9,27 +10,19 @@ pub enum QueueKind {
     Straight,
 }
 
-impl QueueKind {
-    // How the kind is spelled.
-    pub fn spelling(self) -> &'static str
-        ensures { result.now ≡ kind_spelled self }
-    {
+impl Spelled for QueueKind {
+    ghost spelled = { kind_spelled };
+
+    ghost values = { kinds };
+
+    fn all() -> &'static [QueueKind] {
+        &[QueueKind::Ring, QueueKind::Straight]
+    }
+
+    fn spelling(self) -> &'static str {
         match self {
             QueueKind::Ring => "ring",
             QueueKind::Straight => "straight",
-        }
-    }
-
-    // The kind that `word` spells, or `None` where it spells none.
-    pub fn of(word: &[u8]) -> Option<QueueKind>
-        ensures { result ≡ kind_of word.now }
-    {
-        if word == QueueKind::Ring.spelling().as_bytes() {
-            Some(QueueKind::Ring)
-        } else if word == QueueKind::Straight.spelling().as_bytes() {
-            Some(QueueKind::Straight)
-        } else {
-            None
         }
     }
 }

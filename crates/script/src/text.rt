@@ -1,26 +1,36 @@
 // What is printed of a line: the text of its call, or of its mistake.
+ghost use Rattle.script.specs.Kinds.{kind_spelled};
 ghost use Rattle.script.specs.Texts.{call_text, mistake_text, question_text, request_text};
 ghost use Rattle.std.specs.Prelude.{◌≡◌, Some};
 
 use crate::command::{Command, Question};
 use crate::mistake::Mistake;
-use crate::request::Request;
+use crate::request::{QueueKind, Request};
+use crate::spelled::Spelled;
 use std::fmt;
 
 impl fmt::Display for Mistake {
     ghost output = { λ mistake. Some (mistake_text mistake) };
 
     fn fmt<W: fmt::Write>(&self, f: &mut fmt::Formatter<W>) -> fmt::Result {
-        match self {
-            Mistake::NoSuchCommand => write!(f, "no such command"),
-            Mistake::TooFewWords => write!(f, "too few words"),
-            Mistake::TooManyWords => write!(f, "too many words"),
-            Mistake::NotANumber => write!(f, "not a number"),
-            Mistake::NotAByte => write!(f, "not a byte"),
-            Mistake::NoSuchKind => write!(f, "no such kind"),
-            Mistake::TooMuchMemory => write!(f, "too much memory"),
-            Mistake::NotHexadecimal => write!(f, "not hexadecimal"),
-        }
+        f.write_str(match self {
+            Mistake::NoSuchCommand => "no such command",
+            Mistake::TooFewWords => "too few words",
+            Mistake::TooManyWords => "too many words",
+            Mistake::NotANumber => "not a number",
+            Mistake::NotAByte => "not a byte",
+            Mistake::NoSuchKind => "no such kind",
+            Mistake::TooMuchMemory => "too much memory",
+            Mistake::NotHexadecimal => "not hexadecimal",
+        })
+    }
+}
+
+impl fmt::Display for QueueKind {
+    ghost output = { λ kind. Some (kind_spelled kind) };
+
+    fn fmt<W: fmt::Write>(&self, f: &mut fmt::Formatter<W>) -> fmt::Result {
+        f.write_str(self.spelling())
     }
 }
 
@@ -63,7 +73,7 @@ impl fmt::Display for Command {
             Command::Table => write!(f, "table"),
             Command::Ask(question) => write!(f, "{question}"),
             Command::Make(making) => {
-                let kind = making.kind.spelling();
+                let kind = making.kind;
                 let length = making.length;
                 write!(f, "queue {kind} {length}")
             }

@@ -1,13 +1,10 @@
 -- Every command is read back from the words that spell it.
-use Rattle.std.proofs.Common.{◌≡◌, ℕ, ◌/◌, ◌%◌, ◌^◌, ◌<◌, ◌≤◌, true, ltb, List, [], ◌∷◌, map, Some, Ok, Err, decimal, Option, Result, sym, refl, ap, ◌∙◌, mod-lt, arith}
+use Rattle.std.proofs.Common.{◌≡◌, ℕ, ◌/◌, ◌%◌, ◌^◌, ◌<◌, ◌≤◌, ltb, List, [], ◌∷◌, map, Some, Ok, Err, decimal, Option, Result, sym, refl, ap, ◌∙◌, mod-lt, arith}
 use Rattle.std.proofs.lemmas.Nat.{div-add-mod', div_below}
 use Rattle.std.proofs.lemmas.Fmt.{decimal_nonempty, digits_decimal, digits_value-decimal}
-use Rattle.std.proofs.lemmas.Str.Parse.{IsNumeralModel, numerals_by_value, tells_all_ascii_digits}
 use Rattle.std.proofs.lemmas.Bool.{cond-false, le-ltb}
 use Rattle.std.proofs.lemmas.Bool.Decides.{nat_tests}
 use Rattle.std.specs.Option.{ok_or}
-use Rattle.std.specs.Str.Parse.{digits_value}
-use Rattle.std.specs.Str.{all_ascii_digits}
 use Rattle.script.specs.declared.command.Question.{Question}
 use Rattle.script.specs.declared.command.Question.TheVariants.{States, Next, Label}
 use Rattle.script.specs.declared.request.Making.{Making}
@@ -24,10 +21,7 @@ use Rattle.script.specs.Reading.{and_then}
 use Rattle.script.specs.Spelling.{hex_char, hex_pair, spells, Bytes, Fit, ReadBack}
 use Rattle.script.specs.Words.{joined}
 use Rattle.script.proofs.Standing.{cuts}
-use Rattle.script.proofs.Valued.{is_below}
-
-own : IsNumeralModel (λ ds. all_ascii_digits ds ≡ true) (digits_value 10)
-own = numerals_by_value (λ ds. all_ascii_digits ds ≡ true) tells_all_ascii_digits
+use Rattle.script.proofs.Valued.{own, is_below}
 
 decimal_below : (limit n : ℕ) → n < limit → n < 2 ^ 64 → below limit (decimal n) ≡ Some n
 decimal_below limit n small fits =

@@ -3,7 +3,7 @@ use Rattle.std.specs.Slice.Iter.{chunks_rest, chunks_size}
 use Rattle.script.specs.Hex.{hex_bytes}
 use Rattle.script.specs.Words.{joined}
 use Rattle.script.proofs.Pairing.{after}
-use Rattle.script.proofs.hex.bytes.Given as goal
+use Rattle.script.proofs.hex.hex_bytes.Given as goal
 
 -- what is read, in front of what the digits that are left write
 abbrev pub invariant-loop-pair : goal.invariant-loop-pair

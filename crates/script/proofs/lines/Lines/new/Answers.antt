@@ -1,5 +1,0 @@
-use Rattle.script.proofs.Ending.{lines_few}
-use Rattle.script.proofs.lines.Lines.new.Goals as goal
-
-pub returns-clause-few : goal.returns-clause-few
-returns-clause-few c = lines_few c.args.script.now
