@@ -4,14 +4,10 @@
 use session::replay::replay;
 use std::io::Read;
 
-fn run(rt: &HostRuntime) -> anyhow::Result<()> {
+fn main(rt: HostRuntime) -> anyhow::Result<()> {
     let heap = rt.alloc();
     let mut script = Vec::new(heap);
     rt.stdin().read_to_end(&mut script)?;
     rt.print(replay(heap, script.as_slice())?)?;
     Ok(())
-}
-
-fn main(rt: HostRuntime) -> anyhow::Result<()> {
-    run(&rt)
 }

@@ -61,6 +61,7 @@ impl<'a> Player<'a> {
         ensures { IfOk result (λ next. (q : Held ℕ) × PlayedOver (stage_of self.old (fresh making)) (stage_of self.new q) next) }
     {
         let mut memory = vec![in self.heap; 0u8; making.length]?;
+        // Two arms alike: the queues are of two types, and `play_over` is generic in them.
         match making.kind {
             QueueKind::Ring => self.play_over(&mut Ring::new(memory.as_mut_slice())),
             QueueKind::Straight => self.play_over(&mut Straight::new(memory.as_mut_slice())),

@@ -13,7 +13,7 @@ use std::alloc::{AllocError, Global};
 use tables::share::ShareTable;
 use tables::table::RuleTable;
 
-// What comes of a line.
+// What comes of a line. No `Result`: a mistake is printed and the script goes on, and only memory that fails is an `Err`.
 #[derive(Drop)]
 pub enum Outcome {
     PassedOver,
@@ -54,7 +54,7 @@ impl Session {
         }
     }
 
-    // Asks the table in hand.
+    // Asks the table in hand. The tables are of two types and no closure is generic over both, so `states` below switches too.
     fn ask(&self, question: Question) -> Answer
         ensures { result ≡ told (in_hand self.now) question }
     {

@@ -59,11 +59,11 @@ impl fmt::Display for Answer {
             Answer::NotPut(refusal) => {
                 let number = refusal.number();
                 let letter = refusal.letter();
-                write!(f, "refused: queue full (number {number}, letter {letter})")
+                write!(f, "refused: {refusal} (number {number}, letter {letter})")
             }
             Answer::NotDropped(refusal) => {
                 let number = refusal.number();
-                write!(f, "refused: drop beyond the count (number {number})")
+                write!(f, "refused: {refusal} (number {number})")
             }
         }
     }
