@@ -1,10 +1,8 @@
 // What is printed of an answer.
-ghost use Rattle.images.specs.Texts.{fault_text};
 ghost use Rattle.session.specs.Texts.{answer_text, hand_text};
-ghost use Rattle.std.specs.Prelude.{◌≡◌, Some};
+ghost use Rattle.std.specs.Prelude.{Some};
 
 use crate::answer::{Answer, Hand};
-use images::faults::LoadFault;
 use std::fmt;
 
 impl fmt::Display for Hand {
@@ -18,20 +16,6 @@ impl fmt::Display for Hand {
     }
 }
 
-// What is wrong with an image, in words.
-fn fault_words(fault: LoadFault) -> &'static str
-    ensures { result.now ≡ fault_text fault }
-{
-    match fault {
-        LoadFault::Read(_) => "image ends early",
-        LoadFault::Classes { .. } => "first count not 256, or class above 63",
-        LoadFault::States { .. } => "number of states 0 or above 128",
-        LoadFault::StepCount { .. } => "third count not states times classes",
-        LoadFault::NextState { .. } => "next state not below the number of states",
-        LoadFault::LeftOver { .. } => "bytes left over",
-    }
-}
-
 impl fmt::Display for Answer {
     ghost output = { λ answer. Some (answer_text answer) };
 
@@ -39,13 +23,12 @@ impl fmt::Display for Answer {
         match *self {
             Answer::Done => write!(f, "ok"),
             Answer::Refused(fault) => {
-                let words = fault_words(fault);
                 let layer = fault.layer().letter();
                 let number = fault.number();
                 let place = fault.place();
                 write!(
                     f,
-                    "refused: {words} (layer {layer}, number {number}, place {place})"
+                    "refused: {fault} (layer {layer}, number {number}, place {place})"
                 )
             }
             Answer::InHand { hand, states } => write!(f, "{hand}, states {states}"),
