@@ -15,11 +15,11 @@ with_none b [] = refl
 with_none b (w ∷ ws) = refl
 
 -- blanks hold no word, and those before a word do not matter
-no_words : (line : List ℕ) → Only true line → words line ≡ []
+pub no_words : (line : List ℕ) → Only true line → words line ≡ []
 no_words [] only = refl
 no_words (b ∷ bs) only = words_blank b bs only.0 ∙ no_words bs only.1
 
-words_past : (before line : List ℕ) → Only true before → words (before ++ line) ≡ words line
+pub words_past : (before line : List ℕ) → Only true before → words (before ++ line) ≡ words line
 words_past [] line only = refl
 words_past (b ∷ bs) line only = words_blank b (bs ++ line) only.0 ∙ words_past bs line only.1
 
@@ -31,7 +31,7 @@ first_word b (c ∷ w) behind only apart =
     ∙ ap (λ t. with b t (words ((c ∷ w) ++ behind))) (ap not only.1.0)
     ∙ ap (with b true) (first_word c w behind only.1 apart)
 
-next_word : (w behind : List ℕ) → 0 < length w → Only false w → begins behind ≡ false → words (w ++ behind) ≡ w ∷ words behind
+pub next_word : (w behind : List ℕ) → 0 < length w → Only false w → begins behind ≡ false → words (w ++ behind) ≡ w ∷ words behind
 next_word [] behind some only apart = absurd (omega arith)
 next_word (b ∷ w) behind some only apart = first_word b w behind only apart
 

@@ -18,18 +18,15 @@ told t States = answer.States t.states
 told t (Next state byte) = answer.Next (tells_next t state byte)
 told t (Label state) = answer.Label (tells_label t state)
 
-abbrev pub put_answer : Result (Unit {0}) PutRefusal → Answer
-put_answer (Ok _) = answer.Done
-put_answer (Err f) = answer.NotPut f
-
-abbrev pub drop_answer : Result (Unit {0}) DropRefusal → Answer
-drop_answer (Ok _) = answer.Done
-drop_answer (Err f) = answer.NotDropped f
+-- What a call that may be refused answers.
+abbrev pub done_or : {E : Type 0} → (E → Answer) → Result (Unit {0}) E → Answer
+done_or refused (Ok _) = answer.Done
+done_or refused (Err f) = refused f
 
 -- A queue that means q answers a to a request, and then means r.
 abbrev pub Replies : Held ℕ → Request → Answer → Held ℕ → Type 0
 Replies q request.Count a r = (a ≡ answer.Count (length q.items)) × (r ≡ q)
 Replies q request.Limit a r = (a ≡ answer.Limit q.limit) × (r ≡ q)
 Replies q (request.Element place) a r = (a ≡ answer.Element (slice_get q.items place)) × (r ≡ q)
-Replies q (request.Put byte) a r = (b : Result (Unit {0}) PutRefusal) × Put q byte b r × (a ≡ put_answer b)
-Replies q (request.Drop count) a r = (b : Result (Unit {0}) DropRefusal) × Dropped q count b r × (a ≡ drop_answer b)
+Replies q (request.Put byte) a r = (b : Result (Unit {0}) PutRefusal) × Put q byte b r × (a ≡ done_or answer.NotPut b)
+Replies q (request.Drop count) a r = (b : Result (Unit {0}) DropRefusal) × Dropped q count b r × (a ≡ done_or answer.NotDropped b)

@@ -1,4 +1,4 @@
-// A script that is being played.
+// A script that is being played. Its methods are in replay.rt: their clauses name definitions that speak of a player.
 ghost use Rattle.std.specs.Iterator.Adapters.{enumerate_count, enumerate_source};
 ghost use Rattle.std.specs.Prelude.{◌+◌, ◌^◌, ◌<◌, length};
 
