@@ -100,6 +100,7 @@ impl LoadFault {
     }
 }
 
+// By hand and not derived, since clauses name the fault that `?` makes.
 impl From<EndsEarly> for LoadFault {
     ghost from_gives = { λ fault r. r ≡ Read fault };
 

@@ -44,7 +44,8 @@ fn longest<T: RuleTable>(table: &T, bytes: &[u8]) -> Option<(usize, u8)>
 }
 
 // Munch of `bytes`: its tokens are written at the front of `list`, and the rest of `list` stays as it is; or `None`
-// where the list is shorter than the bytes, and then nothing changes.
+// where the list is shorter than the bytes, and then nothing changes. The library allocates nothing, so the list is the
+// caller's, and the count stands beside it.
 pub fn munch<T: RuleTable>(table: &T, bytes: &[u8], list: &mut [Lexeme]) -> Option<Munched>
     ensures { MatchOption result ((length list.old < length bytes.now) × (list.new ≡ list.old)) (λ given. MunchedInto (T.meaning table.now) bytes.now list.old list.new given) }
 {

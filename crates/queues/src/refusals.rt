@@ -14,7 +14,8 @@ pub enum PutRefusal {
 }
 
 impl PutRefusal {
-    // The number of the refusal. A method and no conversion: a refusal tells it, and is more than it.
+    // The number of the refusal. A method and no conversion: a refusal tells it, and is more than it. Of no trait: nothing
+    // takes a refusal of any kind.
     pub fn number(self) -> u8
         ensures { result ≡ (put_told self).number }
     {
@@ -53,7 +54,7 @@ pub enum DropRefusal {
 }
 
 impl DropRefusal {
-    // The number of the refusal. A method and no conversion: a refusal tells it, and is more than it.
+    // The number of the refusal: a method of no trait, as that of a put's.
     pub fn number(self) -> u8
         ensures { result ≡ (drop_told self).number }
     {

@@ -11,7 +11,8 @@ use std::marker::Model;
 // The letter of a ring, apart from the trait's constant: of that one the proof of a method knows no value.
 const RING: char = 'R';
 
-// A queue that runs round in memory lent by the caller: behind the last place in use comes the first.
+// A queue that runs round in memory lent by the caller: behind the last place in use comes the first. The library
+// allocates nothing, so the count stands beside the memory.
 #[derive(Drop)]
 pub struct Ring<'a, T> {
     memory: &'a mut [T],

@@ -11,7 +11,8 @@ use std::marker::Model;
 // The letter of a straight queue, apart from the trait's constant: of that one the proof of a method knows no value.
 const STRAIGHT: char = 'S';
 
-// A queue that keeps its elements in one run, at the front of memory lent by the caller.
+// A queue that keeps its elements in one run, at the front of memory lent by the caller. The library allocates nothing,
+// so the count stands beside the memory.
 #[derive(Drop)]
 pub struct Straight<'a, T> {
     memory: &'a mut [T],
