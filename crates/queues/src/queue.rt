@@ -9,7 +9,8 @@ use crate::refusals::{DropRefusal, PutRefusal};
 pub const MAX_LIMIT: usize = 1_048_576;
 
 // A queue of elements that can be copied: a list with a front and a back, and a limit that never changes.
-// Asking, or a refusal, leaves the list as it was.
+// Asking, or a refusal, leaves the list as it was. Each kind refuses by itself: were the test the trait's, what stands
+// behind it would be a method of the trait too, and ask its callers for room.
 pub trait Queue<T: Copy> {
     // The letter of this kind of queue.
     const LETTER: char;
