@@ -27,7 +27,7 @@ two_words (w ∷ []) = Err TooFewWords
 two_words (w ∷ v ∷ []) = Ok (w, v)
 two_words (w ∷ v ∷ u ∷ ws) = Err TooManyWords
 
--- The words are counted first, and then read from left to right.
+-- One operand, and two: the words are counted first, and then read from left to right.
 abbrev pub one : {X : Type 0} → (List ℕ → Result X Mistake) → List (List ℕ) → Result X Mistake
 one reads ws = and_then (one_word ws) reads
 
