@@ -11,7 +11,7 @@ pub enum Asked {
     Label,
 }
 
-// The name of a call on a queue, as `Asked` is to a `Question`.
+// The name of a call on a queue, to a `Request` what `Asked` is to a `Question`.
 #[derive(Clone, Copy, PartialEq, Eq, Debug)]
 pub enum Requested {
     Count,
