@@ -1,7 +1,7 @@
 // Cutting a script into lines.
 ghost use Rattle.script.specs.Lines.{lines};
 ghost use Rattle.std.specs.Iterator.{item_count, YieldsFirstRef};
-ghost use Rattle.std.specs.Prelude.{◌≡◌, ◌==◌, ◌≤◌, length, position};
+ghost use Rattle.std.specs.Prelude.{◌≡◌, ◌==◌, ◌<◌, ◌≤◌, [], ◌∷◌, length, position, MatchOption};
 
 use std::marker::Model;
 
@@ -10,6 +10,18 @@ fn line_end(script: &[u8]) -> Option<usize>
     ensures { result ≡ position (λ b. b == 10) script.now }
 {
     script.iter().position(|byte| *byte == b'\n')
+}
+
+// The first line of a script and the lines behind it, or `None` where the script has no line.
+pub fn first_line(script: &[u8]) -> Option<(&[u8], &[u8])>
+    ensures { MatchOption result (lines script.now ≡ []) (λ cut. (lines script.now ≡ cut.0.now ∷ lines cut.1.now) × (length cut.1.now < length script.now)) }
+{
+    if script.is_empty() {
+        return None;
+    }
+    let length = line_end(script).unwrap_or(script.len());
+    let (line, behind) = script.split_at(length);
+    Some((line, behind.get(1..).unwrap_or(behind)))
 }
 
 // The lines of a script, one after another: those that are left.
@@ -47,12 +59,8 @@ impl<'a> Iterator for Lines<'a> {
 
     // The first line that is left.
     fn next(&mut self) -> Option<&'a [u8]> {
-        if self.rest.is_empty() {
-            return None;
-        }
-        let length = line_end(self.rest).unwrap_or(self.rest.len());
-        let (line, behind) = self.rest.split_at(length);
-        self.rest = behind.get(1..).unwrap_or(behind);
+        let (line, behind) = first_line(self.rest)?;
+        self.rest = behind;
         Some(line)
     }
 }
