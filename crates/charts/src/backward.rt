@@ -40,9 +40,6 @@ impl<'t, T: RuleTable> Graph for Backward<'t, T> {
 
     fn neighbour(&self, node: usize, slot: usize) -> Option<usize> {
         let state = slot / BYTES;
-        match self.table.next(state, byte_of(slot)) {
-            Some(to) if to == node => Some(state),
-            _ => None,
-        }
+        (self.table.next(state, byte_of(slot)) == Some(node)).then_some(state)
     }
 }

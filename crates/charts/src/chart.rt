@@ -79,10 +79,6 @@ impl<T: RuleTable> Charted for Chart<T> {
     ghost marks = { λ c. has c.open };
 
     fn open(&self, state: usize) -> Option<bool> {
-        if state < self.table.states() {
-            Some(self.open.contains(state))
-        } else {
-            None
-        }
+        (state < self.table.states()).then(|| self.open.contains(state))
     }
 }

@@ -57,7 +57,7 @@ rank New = 0
 rank (Active p) = 0
 rank (Done t) = t.height + 1
 
--- The mark of a node, and what stands at a place of the trail: past its end, a node that none is.
+-- The mark of a node, and what stands at a place of the trail: past its end, nothing was told of node 0.
 abbrev pub mark_of : List Mark → ℕ → Mark
 mark_of marks v = slice_index_or marks v New
 

@@ -10,7 +10,8 @@ use arrayvec::ArrayVec;
 use graphs::graph::{Graph, MAX_NODES};
 use graphs::route::{Route, Step};
 
-// The graph goes along beside the search as a parameter: as its field, each contract would have to say that it stays.
+// The graph goes along beside the search as a parameter: as its field, each contract would have to say that it stays,
+// and no contract would be shorter.
 
 // Where the slots of a node lead on.
 enum Next {

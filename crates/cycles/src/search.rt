@@ -27,8 +27,8 @@ pub(crate) enum Mark {
     Done { told: Told },
 }
 
-// A node of the trail: the step that led to it, and what its slots told. Of the first, no step is taken: only its node
-// counts.
+// A node of the trail: the step that led to it, and what its slots told. To the first none led, and only its node counts:
+// a step that may be none would be asked for at every other, where there is one.
 #[derive(Clone, Copy, Default)]
 pub(crate) struct Followed {
     pub(crate) by: Step,

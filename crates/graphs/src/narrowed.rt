@@ -42,10 +42,6 @@ impl<'g, G: Graph> Graph for Narrowed<'g, G> {
             return None;
         }
         let to = self.graph.neighbour(node, slot)?;
-        if self.into.contains(to) {
-            Some(to)
-        } else {
-            None
-        }
+        self.into.contains(to).then_some(to)
     }
 }

@@ -7,7 +7,7 @@ use crate::graph::MAX_NODES;
 // A set of nodes.
 #[derive(Clone, Copy)]
 pub struct NodeSet {
-    pub(crate) members: [bool; MAX_NODES],
+    members: [bool; MAX_NODES],
 }
 
 impl NodeSet {
@@ -18,6 +18,13 @@ impl NodeSet {
         NodeSet {
             members: [false; MAX_NODES],
         }
+    }
+
+    // The set of the nodes that are marked.
+    pub(crate) fn of(members: [bool; MAX_NODES]) -> NodeSet
+        ensures { result.members ≡ members }
+    {
+        NodeSet { members }
     }
 
     // Whether `node` is in the set.

@@ -103,8 +103,7 @@ impl<'a> Reader<'a> {
         Ok(Number { place, value })
     }
 
-    // A count: two bytes, the high byte first. One function for any number of bytes would promise a sum over them, and
-    // ask for few of them.
+    // A count: two bytes, the high byte first, joined by the numbers' own method, which no function of one byte has.
     pub(crate) fn count(&mut self) -> Result<Number, EndsEarly>
         ensures { Passed self.old 2 result self.new (λ n. n ≡ record { place = self.old.place; value = count_at self.old.image self.old.place }) }
     {

@@ -9,15 +9,15 @@ use crate::refusals::{DropRefusal, PutRefusal};
 pub const MAX_LIMIT: usize = 1_048_576;
 
 // A queue of elements that can be copied: a list with a front and a back, and a limit that never changes.
-// Asking, or a refusal, leaves the list as it was. Each kind refuses by itself: were the test the trait's, what stands
-// behind it would be a method of the trait too, and ask its callers for room.
+// Asking, or a refusal, leaves the list as it was.
 pub trait Queue<T: Copy> {
     // The letter of this kind of queue.
     const LETTER: char;
 
     ghost meaning: { Self → Held T };
 
-    // How many elements there are: never more than the limit.
+    // How many elements there are: never more than the limit. As a law of the trait that would have to hold of every list
+    // with any limit.
     fn count(&self) -> usize
         ensures value { result ≡ length (meaning self.now).items }
         ensures within { result ≤ (meaning self.now).limit };

@@ -3,7 +3,7 @@ ghost use Rattle.queues.specs.Memory.{limit_of, ring_held, ring_letter};
 ghost use Rattle.queues.specs.Queue.{Held};
 ghost use Rattle.std.specs.Prelude.{◌≡◌, ◌+◌, ◌-◌, ◌≤◌, [], if◌then◌else◌, nat_lt};
 
-use crate::memory::limit_over;
+use crate::memory::{left_after, limit_over, room};
 use crate::queue::Queue;
 use crate::refusals::{DropRefusal, PutRefusal};
 use std::marker::Model;
@@ -76,20 +76,16 @@ impl<'a, T: Copy> Queue<T> for Ring<'a, T> {
 
     fn put(&mut self, element: T) -> Result<(), PutRefusal> {
         let limit = self.limit();
-        if self.count >= limit {
-            return Err(PutRefusal::Full { letter: RING });
-        }
+        room(self.count, limit, RING)?;
         self.memory[wrapped(self.head, self.count, limit)] = element;
         self.count += 1;
         Ok(())
     }
 
     fn drop_front(&mut self, k: usize) -> Result<(), DropRefusal> {
-        if k > self.count {
-            return Err(DropRefusal::BeyondCount);
-        }
+        let left = left_after(self.count, k)?;
         self.head = wrapped(self.head, k, self.limit());
-        self.count -= k;
+        self.count = left;
         Ok(())
     }
 }

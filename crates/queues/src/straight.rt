@@ -3,7 +3,7 @@ ghost use Rattle.queues.specs.Memory.{limit_of, straight_held, straight_letter};
 ghost use Rattle.queues.specs.Queue.{Held};
 ghost use Rattle.std.specs.Prelude.{◌≡◌, ◌≤◌, []};
 
-use crate::memory::limit_over;
+use crate::memory::{left_after, limit_over, room};
 use crate::queue::Queue;
 use crate::refusals::{DropRefusal, PutRefusal};
 use std::marker::Model;
@@ -54,20 +54,16 @@ impl<'a, T: Copy> Queue<T> for Straight<'a, T> {
     }
 
     fn put(&mut self, element: T) -> Result<(), PutRefusal> {
-        if self.count >= self.limit() {
-            return Err(PutRefusal::Full { letter: STRAIGHT });
-        }
+        room(self.count, self.limit(), STRAIGHT)?;
         self.memory[self.count] = element;
         self.count += 1;
         Ok(())
     }
 
     fn drop_front(&mut self, k: usize) -> Result<(), DropRefusal> {
-        if k > self.count {
-            return Err(DropRefusal::BeyondCount);
-        }
+        let left = left_after(self.count, k)?;
         self.memory.copy_within(k..self.count, 0);
-        self.count -= k;
+        self.count = left;
         Ok(())
     }
 }

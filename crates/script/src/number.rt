@@ -23,7 +23,8 @@ pub(crate) fn number(word: &[u8]) -> Option<usize>
     digits(word)?.parse::<usize>().ok()
 }
 
-// The byte that `word` writes, or `None` where it writes no number below 256.
+// The byte that `word` writes, or `None` where it writes no number below 256. Beside `number`, since what `parse` gives is
+// said of each type by itself: one function for both would promise less.
 #[tactic(auto, using(crate::proofs::Valued::parsed))]
 pub(crate) fn byte(word: &[u8]) -> Option<u8>
     ensures { result ≡ byte_of word.now }

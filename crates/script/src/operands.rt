@@ -12,7 +12,7 @@ use crate::words::Words;
 // The most bytes of memory that a script may ask for.
 const MOST_MEMORY: usize = 2_097_152;
 
-// What one word can write. No `TryFrom`, since this crate cannot give that to numbers.
+// What one word can write. No `TryFrom`: numbers could have it only from a type that this crate made for words alone.
 pub(crate) trait Operand: Sized {
     ghost reads: { List ℕ → Result Self Mistake };
 

@@ -8,10 +8,10 @@ pub trait Spelled: Copy + 'static {
     // How each value is spelled.
     ghost spelled: { Self → List ℕ };
 
-    // All values. A word is looked for among them in this order.
+    // All values, in the order in which a word is looked for among them.
     ghost values: { List Self };
 
-    // All values.
+    // Those values.
     fn all() -> &'static [Self]
         ensures { result.now ≡ values };
 

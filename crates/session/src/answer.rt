@@ -17,7 +17,7 @@ pub enum Hand {
 }
 
 // The answer to a command.
-#[derive(Clone, Copy, PartialEq, Debug)]
+#[derive(Clone, Copy, PartialEq, Eq, Debug)]
 pub enum Answer {
     Done,
     Refused(LoadFault),
@@ -51,13 +51,11 @@ pub fn reply<Q: Queue<u8>>(queue: &mut Q, request: Request) -> Answer
         Request::Count => Answer::Count(queue.count()),
         Request::Limit => Answer::Limit(queue.limit()),
         Request::Element { place } => Answer::Element(queue.element(place)),
-        Request::Put { byte } => match queue.put(byte) {
-            Ok(()) => Answer::Done,
-            Err(refusal) => Answer::NotPut(refusal),
-        },
-        Request::Drop { count } => match queue.drop_front(count) {
-            Ok(()) => Answer::Done,
-            Err(refusal) => Answer::NotDropped(refusal),
-        },
+        Request::Put { byte } => queue
+            .put(byte)
+            .map_or_else(Answer::NotPut, |()| Answer::Done),
+        Request::Drop { count } => queue
+            .drop_front(count)
+            .map_or_else(Answer::NotDropped, |()| Answer::Done),
     }
 }

@@ -54,7 +54,8 @@ impl Session {
         }
     }
 
-    // Asks the table in hand. The tables are of two types and no closure is generic over both, so `states` below switches too.
+    // Asks the table in hand. The tables are of two types, no closure is generic over both, and a `dyn` of one could not be
+    // handed out, so `states` below switches too.
     fn ask(&self, question: Question) -> Answer
         ensures { result ≡ told (in_hand self.now) question }
     {

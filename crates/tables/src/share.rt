@@ -65,19 +65,11 @@ impl RuleTable for ShareTable {
     }
 
     fn next(&self, state: usize, byte: u8) -> Option<usize> {
-        if state < STATES {
-            Some(step(state, Kind::from(byte)))
-        } else {
-            None
-        }
+        (state < STATES).then(|| step(state, Kind::from(byte)))
     }
 
     fn label(&self, state: usize) -> Option<u8> {
-        if state < STATES {
-            Some(label_of(state))
-        } else {
-            None
-        }
+        (state < STATES).then(|| label_of(state))
     }
 }
 
@@ -85,10 +77,6 @@ impl Charted for ShareTable {
     ghost marks = { λ _. share_marks };
 
     fn open(&self, state: usize) -> Option<bool> {
-        if state < STATES {
-            Some(state < CLOSED)
-        } else {
-            None
-        }
+        (state < STATES).then_some(state < CLOSED)
     }
 }

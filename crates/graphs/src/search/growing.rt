@@ -10,7 +10,7 @@ use crate::nodes::NodeSet;
 use crate::search::Reached;
 
 // The graph and the given nodes go along as parameters: as fields of what changes, each contract would have to say that
-// they stay.
+// they stay, and a struct of the two alone would save none, as what changes goes along too.
 
 impl Reached {
     // Marks the nodes at the end of a path of one or more edges of `graph` from the nodes of `starts`.

@@ -23,9 +23,7 @@ impl Reached {
     pub fn nodes(&self) -> NodeSet
         ensures { (k : ℕ) → has result k ≡ reached self.now k }
     {
-        NodeSet {
-            members: self.arrivals.map(|arrival| arrival.is_some()),
-        }
+        NodeSet::of(self.arrivals.map(|arrival| arrival.is_some()))
     }
 
     // How the search came to `node`, or `None` where it did not.

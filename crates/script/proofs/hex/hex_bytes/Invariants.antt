@@ -1,12 +1,10 @@
-use Rattle.std.proofs.Common.{◌≡◌, vec_items}
-use Rattle.std.specs.Slice.Iter.{chunks_rest, chunks_size}
-use Rattle.script.specs.Hex.{hex_bytes}
+use Rattle.std.proofs.Common.{◌++◌, drop, vec_items}
 use Rattle.script.specs.Words.{joined}
-use Rattle.script.proofs.Pairing.{after}
+use Rattle.script.proofs.Pairing.{Sofar}
 use Rattle.script.proofs.hex.hex_bytes.Given as goal
 
--- what is read, in front of what the digits that are left write
-abbrev pub invariant-loop-pair : goal.invariant-loop-pair
-invariant-loop-pair l =
-    (hex_bytes (joined l.fn.words) ≡ after (vec_items l.bytes) (hex_bytes (chunks_rest l.pair-iterator)))
-    × (chunks_size l.pair-iterator ≡ 2)
+abbrev pub invariant-loop-word : goal.invariant-loop-word
+invariant-loop-word l = Sofar l.fn.words (vec_items l.bytes) l.high (joined l.word-iterator)
+
+abbrev pub invariant-loop-byte : goal.invariant-loop-byte
+invariant-loop-byte l = Sofar l.fn.words (vec_items l.bytes) l.high (drop l.byte-index l.word ++ joined l.word-iterator)
