@@ -61,7 +61,8 @@ pub enum LoadFault {
 }
 
 impl LoadFault {
-    // The number of the fault, 1 to 6. A method and no conversion: a fault tells it, and is more than it.
+    // The number of the fault, 1 to 6. A method and no conversion: a fault tells it, and is more than it. Of no trait:
+    // nothing takes a refusal of any kind.
     pub fn number(self) -> u8
         ensures { result ≡ (told self).number }
     {
