@@ -6,7 +6,7 @@ use Rattle.std.proofs.lemmas.Bool.{cond-false, le-ltb}
 use Rattle.std.proofs.lemmas.Bool.Decides.{nat_tests}
 use Rattle.std.specs.Option.{ok_or}
 use Rattle.script.specs.declared.command.Question.{Question}
-use Rattle.script.specs.declared.command.Question.TheVariants.{States, Next, Label}
+use Rattle.script.specs.declared.command.Question.TheVariants.{States, Next, Label, Open, Search, Find}
 use Rattle.script.specs.declared.request.Making.{Making}
 use Rattle.script.specs.declared.request.QueueKind.{QueueKind}
 use Rattle.script.specs.declared.request.QueueKind.TheVariants.{Ring, Straight}
@@ -46,9 +46,10 @@ line_with r = and_then r (λ c. Ok (Some c))
 abbrev loads : Option (List ℕ) → Result (Option Call) Mistake
 loads o = line_with (and_then (ok_or o NotHexadecimal) (λ image. Ok (load image)))
 
-abbrev asks_next : Option ℕ → Option ℕ → Result (Option Call) Mistake
-asks_next s b =
-    line_with (and_then {X = Question} (and_then {X = ℕ × ℕ} (and_then (ok_or s NotANumber) (λ n. and_then (ok_or b NotAByte) (λ m. Ok (n, m)))) (λ p. Ok (Next p.0 p.1))) (λ q. Ok (ask q)))
+-- a question with two operands
+abbrev asks_two : (ℕ → ℕ → Question) → Mistake → Option ℕ → Option ℕ → Result (Option Call) Mistake
+asks_two question m o p =
+    line_with (and_then {X = Question} (and_then {X = ℕ × ℕ} (and_then (ok_or o NotANumber) (λ n. and_then (ok_or p m) (λ k. Ok (n, k)))) (λ p. Ok (question p.0 p.1))) (λ q. Ok (ask q)))
 
 -- a command with one operand
 abbrev with_one : {X : Type 0} → (X → Call) → (ℕ → X) → Mistake → Option ℕ → Result (Option Call) Mistake
@@ -73,9 +74,14 @@ says_back (load image) fit = ap loads (hex_back image fit)
 says_back table fit = refl
 says_back (ask States) fit = refl
 says_back (ask (Next state byte)) fit =
-    ap (λ o. asks_next o (below 256 (decimal byte))) (decimal_below (2 ^ 64) state fit.0 fit.0)
-    ∙ ap (asks_next (Some state)) (decimal_below 256 byte fit.1 (omega (arith, fit.1)))
+    ap (λ o. asks_two Next NotAByte o (below 256 (decimal byte))) (decimal_below (2 ^ 64) state fit.0 fit.0)
+    ∙ ap (asks_two Next NotAByte (Some state)) (decimal_below 256 byte fit.1 (omega (arith, fit.1)))
 says_back (ask (Label state)) fit = ap (with_one ask Label NotANumber) (decimal_below (2 ^ 64) state fit fit)
+says_back (ask (Open state)) fit = ap (with_one ask Open NotANumber) (decimal_below (2 ^ 64) state fit fit)
+says_back (ask (Search from to)) fit =
+    ap (λ o. asks_two Search NotANumber o (below (2 ^ 64) (decimal to))) (decimal_below (2 ^ 64) from fit.0 fit.0)
+    ∙ ap (asks_two Search NotANumber (Some from)) (decimal_below (2 ^ 64) to fit.1 fit.1)
+says_back (ask Find) fit = refl
 says_back (make m) fit = kind_back m.kind m.length fit
 says_back (queue Count) fit = refl
 says_back (queue Limit) fit = refl

@@ -10,7 +10,7 @@ use Rattle.script.specs.declared.mistake.Mistake.TheVariants.{NoSuchCommand}
 use Rattle.script.specs.declared.name.Name.{Name}
 use Rattle.script.specs.declared.name.Name.TheVariants.{Share, Load, Table, Ask, Make, Queue}
 use Rattle.script.specs.declared.name.Asked.{Asked}
-use Rattle.script.specs.declared.name.Asked.TheVariants.{States, Next, Label}
+use Rattle.script.specs.declared.name.Asked.TheVariants.{States, Next, Label, Open, Search, Find}
 use Rattle.script.specs.declared.name.Requested.{Requested}
 use Rattle.script.specs.declared.name.Requested.TheVariants.{Count, Limit, Element, Put, Drop}
 use Rattle.script.specs.declared.request.Making.{Making}
@@ -45,6 +45,9 @@ abbrev pub asks : Asked → List (List ℕ) → Result Question Mistake
 asks States ws = and_then (no_operand ws) (λ _. Ok question.States)
 asks Next ws = and_then (two number byte ws) (λ p. Ok (question.Next p.0 p.1))
 asks Label ws = and_then (one number ws) (λ s. Ok (question.Label s))
+asks Open ws = and_then (one number ws) (λ s. Ok (question.Open s))
+asks Search ws = and_then (two number number ws) (λ p. Ok (question.Search p.0 p.1))
+asks Find ws = and_then (no_operand ws) (λ _. Ok question.Find)
 
 abbrev pub requests : Requested → List (List ℕ) → Result Request Mistake
 requests Count ws = and_then (no_operand ws) (λ _. Ok request.Count)

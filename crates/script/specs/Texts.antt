@@ -24,6 +24,9 @@ abbrev pub question_text : Question → List ℕ
 question_text question.States = codes "states"
 question_text (question.Next state byte) = codes "next " ++ (decimal state ++ (codes " " ++ decimal byte))
 question_text (question.Label state) = codes "label " ++ decimal state
+question_text (question.Open state) = codes "open " ++ decimal state
+question_text (question.Search from to) = codes "search " ++ (decimal from ++ (codes " " ++ decimal to))
+question_text question.Find = codes "find"
 
 abbrev pub request_text : Request → List ℕ
 request_text request.Count = codes "count"

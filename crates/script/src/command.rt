@@ -19,6 +19,12 @@ pub enum Question {
     States,
     Next { state: usize, byte: u8 },
     Label { state: usize },
+    // Whether some word of at least one byte leads from the state to an accepting one.
+    Open { state: usize },
+    // A path of one edge or more in the forward graph.
+    Search { from: usize, to: usize },
+    // A cycle of the forward graph, or a longest path where it has none.
+    Find,
 }
 
 // A command of a script, with its operands.
@@ -55,6 +61,9 @@ impl Question {
             Asked::States => no_operand(words).map(|()| Question::States),
             Asked::Next => two(words).map(|(state, byte)| Question::Next { state, byte }),
             Asked::Label => one(words).map(|state| Question::Label { state }),
+            Asked::Open => one(words).map(|state| Question::Open { state }),
+            Asked::Search => two(words).map(|(from, to)| Question::Search { from, to }),
+            Asked::Find => no_operand(words).map(|()| Question::Find),
         }
     }
 }

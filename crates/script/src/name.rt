@@ -9,6 +9,9 @@ pub enum Asked {
     States,
     Next,
     Label,
+    Open,
+    Search,
+    Find,
 }
 
 // The name of a call on a queue, to a `Request` what `Asked` is to a `Question`.
@@ -45,6 +48,9 @@ impl Spelled for Name {
             Name::Ask(Asked::States),
             Name::Ask(Asked::Next),
             Name::Ask(Asked::Label),
+            Name::Ask(Asked::Open),
+            Name::Ask(Asked::Search),
+            Name::Ask(Asked::Find),
             Name::Make,
             Name::Queue(Requested::Count),
             Name::Queue(Requested::Limit),
@@ -62,6 +68,9 @@ impl Spelled for Name {
             Name::Ask(Asked::States) => "states",
             Name::Ask(Asked::Next) => "next",
             Name::Ask(Asked::Label) => "label",
+            Name::Ask(Asked::Open) => "open",
+            Name::Ask(Asked::Search) => "search",
+            Name::Ask(Asked::Find) => "find",
             Name::Make => "queue",
             Name::Queue(Requested::Count) => "count",
             Name::Queue(Requested::Limit) => "limit",

@@ -42,6 +42,9 @@ impl fmt::Display for Question {
             Question::States => write!(f, "states"),
             Question::Next { state, byte } => write!(f, "next {state} {byte}"),
             Question::Label { state } => write!(f, "label {state}"),
+            Question::Open { state } => write!(f, "open {state}"),
+            Question::Search { from, to } => write!(f, "search {from} {to}"),
+            Question::Find => write!(f, "find"),
         }
     }
 }
