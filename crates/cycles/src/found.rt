@@ -5,7 +5,7 @@ ghost use Rattle.std.specs.Prelude.{◌≡◌};
 use graphs::route::Route;
 
 // What the finder found in a graph. No Result: a longest path is no failure, and a cycle neither.
-#[derive(Clone, Copy)]
+#[derive(Clone, Copy, PartialEq, Eq, Debug)]
 pub enum Found {
     // A cycle.
     Cycle(Route),

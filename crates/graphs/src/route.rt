@@ -12,7 +12,7 @@ pub struct Step {
 
 // A path: the node where it starts, and its steps, at most 128.
 // An array with a length beside: the library allocates nothing, and a path can be copied.
-#[derive(Clone, Copy)]
+#[derive(Clone, Copy, PartialEq, Eq, Debug)]
 pub struct Route {
     pub(crate) start: usize,
     pub(crate) steps: [Step; MAX_NODES],

@@ -1,22 +1,13 @@
--- What a rule table and a queue answer.
+-- What a queue answers.
 use Rattle.std.specs.Prelude.{◌≡◌, ℕ, length, Ok, Err, Result}
 use Rattle.std.specs.List.{slice_get}
 use Rattle.queues.specs.Queue.{Held, Put, Dropped}
 use Rattle.queues.specs.declared.refusals.PutRefusal.{PutRefusal}
 use Rattle.queues.specs.declared.refusals.DropRefusal.{DropRefusal}
-use Rattle.tables.specs.Table.{Table, tells_next, tells_label}
-use Rattle.script.specs.declared.command.Question.{Question}
-use Rattle.script.specs.declared.command.Question.TheVariants.{States, Next, Label}
 use Rattle.script.specs.declared.request.Request.{Request}
 use Rattle.script.specs.declared.request.Request.TheVariants as request
 use Rattle.session.specs.declared.answer.Answer.{Answer}
 use Rattle.session.specs.declared.answer.Answer.TheVariants as answer
-
--- The answer to a question, by the meaning of the table.
-abbrev pub told : Table → Question → Answer
-told t States = answer.States t.states
-told t (Next state byte) = answer.Next (tells_next t state byte)
-told t (Label state) = answer.Label (tells_label t state)
 
 -- What a call that may be refused answers.
 abbrev pub done_or : {E : Type 0} → (E → Answer) → Result (Unit {0}) E → Answer

@@ -1,4 +1,5 @@
 pub mod Answers
 pub mod Replays
 pub mod Sessions
+pub mod Telling
 pub mod Texts

@@ -1,8 +1,10 @@
 -- What the commands of a script do.
-use Rattle.std.specs.Prelude.{◌≡◌, ℕ, min, ◌⊎◌, List, [], Some, None, Ok, Err, vec_items, Option}
+use Rattle.std.specs.Prelude.{◌≡◌, ℕ, Bool, min, ◌⊎◌, List, [], Some, None, Ok, Err, vec_items, Option}
 use Rattle.images.specs.Image.{WritesDown, HasFault}
 use Rattle.images.specs.Loaded.{table_of}
-use Rattle.tables.specs.Share.{share_table}
+use Rattle.graphs.specs.Nodes.{has}
+use Rattle.tables.specs.Openness.{TellsRightly}
+use Rattle.tables.specs.Share.{share_marks, share_table}
 use Rattle.tables.specs.Table.{Table, Empty}
 use Rattle.images.specs.declared.faults.LoadFault.{LoadFault}
 use Rattle.queues.specs.Memory.{ring_letter, straight_letter}
@@ -10,7 +12,8 @@ use Rattle.queues.specs.Queue.{Held}
 use Rattle.script.specs.declared.request.Making.{Making}
 use Rattle.script.specs.declared.request.QueueKind.{QueueKind}
 use Rattle.script.specs.declared.request.QueueKind.TheVariants as kind
-use Rattle.session.specs.Answers.{Replies, told}
+use Rattle.session.specs.Answers.{Replies}
+use Rattle.session.specs.Telling.{Tells}
 use Rattle.script.specs.Commands.{call_of, says}
 use Rattle.script.specs.Words.{words}
 use Rattle.session.specs.declared.answer.Answer.{Answer}
@@ -23,22 +26,38 @@ use Rattle.session.specs.declared.session.Outcome.{Outcome}
 use Rattle.session.specs.declared.session.Outcome.TheVariants.{PassedOver, Wrong, Answered}
 use Rattle.session.specs.declared.session.Session.{Session}
 
--- The table in hand, where t is the loaded one.
+-- The loaded table, and what its chart tells of open states.
+abbrev pub loaded_table : Session → Table
+loaded_table s = table_of s.loaded.table
+
+abbrev pub loaded_marks : Session → ℕ → Bool
+loaded_marks s = has s.loaded.open
+
+-- The table in hand, where t is the loaded one, and what it tells of open states.
 abbrev pub table_in : Hand → Table → Table
 table_in hand.Share t = share_table
 table_in hand.Loaded t = t
 
 abbrev pub in_hand : Session → Table
-in_hand s = table_in s.hand (table_of s.loaded)
+in_hand s = table_in s.hand (loaded_table s)
 
--- At first: the empty table is loaded, and in hand.
+abbrev pub marks_in : Hand → (ℕ → Bool) → ℕ → Bool
+marks_in hand.Share marks = share_marks
+marks_in hand.Loaded marks = marks
+
+abbrev pub marks_in_hand : Session → ℕ → Bool
+marks_in_hand s = marks_in s.hand (loaded_marks s)
+
+-- At first: the empty table is loaded, charted and in hand.
 pub record Fresh (s : Session) : Type 0 where
-  pub empty : Empty (table_of s.loaded)
+  pub empty : Empty (loaded_table s)
+  pub charted : TellsRightly (loaded_table s) (loaded_marks s)
   pub loaded : s.hand ≡ hand.Loaded
 
--- The image writes down the table that is then loaded and in hand.
+-- The image writes down the table that is then loaded, charted and in hand.
 pub record Takes (image : List ℕ) (t : Session) : Type 0 where
-  pub written : WritesDown image (table_of t.loaded)
+  pub written : WritesDown image (loaded_table t)
+  pub charted : TellsRightly (loaded_table t) (loaded_marks t)
   pub taken : t.hand ≡ hand.Loaded
 
 -- The session s loads an image, answers a, and is then t. A refusal tells the image's fault, and changes nothing.
@@ -51,7 +70,7 @@ abbrev pub Answers : Session → Held ℕ → Command → Answer → Session →
 Answers s q command.Share a t r = (a ≡ Done) × (t.hand ≡ hand.Share) × (t.loaded ≡ s.loaded) × (r ≡ q)
 Answers s q (command.Load image) a t r = Loads s (vec_items image) a t × (r ≡ q)
 Answers s q command.Table a t r = (a ≡ InHand s.hand (in_hand s).states) × (t ≡ s) × (r ≡ q)
-Answers s q (command.Ask question) a t r = (a ≡ told (in_hand s) question) × (t ≡ s) × (r ≡ q)
+Answers s q (command.Ask question) a t r = Tells (in_hand s) (marks_in_hand s) question a × (t ≡ s) × (r ≡ q)
 Answers s q (command.Make m) a t r = (a ≡ Done) × (t ≡ s) × (r ≡ q)
 Answers s q (command.Queue request) a t r = Replies q request a r × (t ≡ s)
 

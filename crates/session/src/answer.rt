@@ -1,12 +1,20 @@
 // What a call answers.
-ghost use Rattle.session.specs.Answers.{Replies, told};
+ghost use Rattle.session.specs.Answers.{Replies};
+ghost use Rattle.session.specs.Telling.{Gives, Tells};
 ghost use Rattle.std.specs.Prelude.{◌≡◌};
 
+use charts::forward::Forward;
+use cycles::finder::find;
+use cycles::found::Found;
+use graphs::nodes::NodeSet;
+use graphs::route::Route;
+use graphs::search::Reached;
 use images::faults::LoadFault;
 use queues::queue::Queue;
 use queues::refusals::{DropRefusal, PutRefusal};
 use script::command::Question;
 use script::request::Request;
+use tables::charted::Charted;
 use tables::table::RuleTable;
 
 // Which table is in hand.
@@ -25,6 +33,9 @@ pub enum Answer {
     States(usize),
     Next(Option<usize>),
     Label(Option<u8>),
+    Open(Option<bool>),
+    Path(Option<Route>),
+    Found(Found),
     Count(usize),
     Limit(usize),
     Element(Option<u8>),
@@ -32,14 +43,26 @@ pub enum Answer {
     NotDropped(DropRefusal),
 }
 
-// What a rule table answers to a question.
-pub fn ask<T: RuleTable>(table: &T, question: Question) -> Answer
-    ensures { result ≡ told (T.meaning table.now) question }
+// A path of one or more edges in the forward graph of a table, from one node to another.
+fn path<T: RuleTable>(table: &T, from: usize, to: usize) -> Option<Route>
+    ensures { Gives (T.meaning table.now) from to result }
+{
+    let mut starts = NodeSet::empty();
+    starts.insert(from);
+    Reached::search(&Forward::new(table), &starts).route_to(to)
+}
+
+// What a charted table answers to a question.
+pub fn ask<T: Charted>(table: &T, question: Question) -> Answer
+    ensures { Tells (T.RuleTable.meaning table.now) (T.marks table.now) question result }
 {
     match question {
         Question::States => Answer::States(table.states()),
         Question::Next { state, byte } => Answer::Next(table.next(state, byte)),
         Question::Label { state } => Answer::Label(table.label(state)),
+        Question::Open { state } => Answer::Open(table.open(state)),
+        Question::Search { from, to } => Answer::Path(path(table, from, to)),
+        Question::Find => Answer::Found(find(&Forward::new(table))),
     }
 }
 

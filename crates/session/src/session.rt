@@ -1,9 +1,10 @@
 // A session: the tables that the commands of a script speak of.
-ghost use Rattle.session.specs.Sessions.{Answers, Fresh, Loads, Plays, in_hand, making_of};
-ghost use Rattle.session.specs.Answers.{told};
+ghost use Rattle.session.specs.Sessions.{Answers, Fresh, Loads, Plays, in_hand, making_of, marks_in_hand};
+ghost use Rattle.session.specs.Telling.{Tells};
 ghost use Rattle.std.specs.Prelude.{◌≡◌, MatchResult};
 
 use crate::answer::{Answer, Hand, ask, reply};
+use charts::chart::Chart;
 use images::loaded::LoadedTable;
 use queues::queue::Queue;
 use script::command::{Command, Question};
@@ -36,10 +37,10 @@ impl Outcome {
     }
 }
 
-// The place for a loaded table, and which table is in hand.
+// The loaded table, charted, and which table is in hand.
 #[derive(Drop)]
 pub struct Session {
-    loaded: LoadedTable,
+    loaded: Chart<LoadedTable>,
     hand: Hand,
 }
 
@@ -49,7 +50,7 @@ impl Session {
         ensures { Fresh result }
     {
         Session {
-            loaded: LoadedTable::empty(),
+            loaded: Chart::new(LoadedTable::empty()),
             hand: Hand::Loaded,
         }
     }
@@ -57,7 +58,7 @@ impl Session {
     // Asks the table in hand. The tables are of two types, no closure is generic over both, and a `dyn` of one could not be
     // handed out, so `states` below switches too.
     fn ask(&self, question: Question) -> Answer
-        ensures { result ≡ told (in_hand self.now) question }
+        ensures { Tells (in_hand self.now) (marks_in_hand self.now) question result }
     {
         match self.hand {
             Hand::Share => ask(&ShareTable, question),
@@ -75,12 +76,14 @@ impl Session {
         }
     }
 
-    // Loads the table that an image writes down, and takes it in hand.
+    // Loads and charts the table that an image writes down, and takes it in hand.
     fn load(&mut self, image: &[u8]) -> Answer
         ensures { Loads self.old image.now result self.new }
     {
-        match self.loaded.load(image) {
+        let mut table = LoadedTable::empty();
+        match table.load(image) {
             Ok(()) => {
+                self.loaded = Chart::new(table);
                 self.hand = Hand::Loaded;
                 Answer::Done
             }

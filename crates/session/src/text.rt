@@ -3,6 +3,7 @@ ghost use Rattle.session.specs.Texts.{answer_text, hand_text};
 ghost use Rattle.std.specs.Prelude.{Some};
 
 use crate::answer::{Answer, Hand};
+use cycles::found::Found;
 use std::fmt;
 
 impl fmt::Display for Hand {
@@ -38,7 +39,16 @@ impl fmt::Display for Answer {
             Answer::Count(count) => write!(f, "{count}"),
             Answer::Limit(limit) => write!(f, "{limit}"),
             Answer::Element(Some(byte)) => write!(f, "{byte}"),
-            Answer::Next(None) | Answer::Label(None) | Answer::Element(None) => write!(f, "none"),
+            Answer::Open(Some(true)) => write!(f, "yes"),
+            Answer::Open(Some(false)) => write!(f, "no"),
+            Answer::Path(Some(route)) => write!(f, "path {route}"),
+            Answer::Found(Found::Cycle(route)) => write!(f, "cycle {route}"),
+            Answer::Found(Found::Longest(route)) => write!(f, "longest path {route}"),
+            Answer::Next(None)
+            | Answer::Label(None)
+            | Answer::Open(None)
+            | Answer::Path(None)
+            | Answer::Element(None) => write!(f, "none"),
             Answer::NotPut(refusal) => {
                 let number = refusal.number();
                 let letter = refusal.letter();
