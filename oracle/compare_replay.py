@@ -20,7 +20,15 @@ from typing import Iterator, Optional
 
 sys.path.insert(0, str(Path(__file__).resolve().parent.parent))
 
-from oracle import suite_images, suite_queues, suite_samples, suite_script, suite_share  # noqa: E402
+from oracle import (  # noqa: E402
+    suite_graphs,
+    suite_images,
+    suite_queues,
+    suite_samples,
+    suite_script,
+    suite_share,
+)
+from oracle.answers import Line, Tested, examples, is_right  # noqa: E402
 from oracle.cases import Case, Suite  # noqa: E402
 from oracle.script import Replay, expected  # noqa: E402
 
@@ -31,6 +39,7 @@ SUITES: dict[str, Suite] = {
         suite_script.SUITE,
         suite_share.SUITE,
         suite_images.SUITE,
+        suite_graphs.SUITE,
         suite_queues.SUITE,
     )
 }
@@ -63,7 +72,7 @@ class Difference:
     """The first line in which a run differs from the model; None is the end of the output."""
 
     line: int
-    expected: Optional[bytes]
+    expected: Optional[Line]
     actual: Optional[bytes]
     outcome: Outcome
 
@@ -92,22 +101,24 @@ class Program:
         return Outcome(done.stdout, trouble, done.stderr)
 
     def difference(
-        self, script: bytes, should: Optional[bytes] = None, seconds: float = RUN_SECONDS
+        self, script: bytes, should: Optional[list[Line]] = None, seconds: float = RUN_SECONDS
     ) -> Optional[Difference]:
         """The first difference on a script, from a fresh process, or None."""
-        should = expected(script) if should is None else should
+        wanted = expected(script) if should is None else should
         outcome = self.run(script, seconds)
-        if outcome.stdout == should and not outcome.trouble:
+        if outcome.stdout == examples(wanted) and not outcome.trouble:
             return None
-        wanted, got = lines_of(should), lines_of(outcome.stdout)
-        line = 0
-        while line < min(len(wanted), len(got)) and wanted[line] == got[line]:
-            line += 1
-
-        def at(lines: list[bytes]) -> Optional[bytes]:
-            return lines[line] if line < len(lines) else None
-
-        return Difference(line, at(wanted), at(got), outcome)
+        got = lines_of(outcome.stdout)
+        both = min(len(wanted), len(got))
+        line = next((place for place in range(both) if not is_right(wanted[place], got[place])), both)
+        if line == len(wanted) == len(got) and not outcome.trouble:
+            return None
+        return Difference(
+            line,
+            wanted[line] if line < len(wanted) else None,
+            got[line] if line < len(got) else None,
+            outcome,
+        )
 
 
 def batches(cases: list[Case]) -> Iterator[list[int]]:
@@ -128,10 +139,10 @@ def batches(cases: list[Case]) -> Iterator[list[int]]:
         yield group
 
 
-def differing_case(printed: list[bytes], line: int) -> int:
+def differing_case(printed: list[list[Line]], line: int) -> int:
     """Which case of a batch the line of output belongs to."""
-    for index, text in enumerate(printed):
-        line -= text.count(b"\n")
+    for index, lines in enumerate(printed):
+        line -= len(lines)
         if line < 0:
             return index
     return len(printed) - 1
@@ -177,12 +188,13 @@ def reduced(program: Program, scripts: list[bytes], index: int) -> tuple[int, Op
     return index, script if program.difference(script) is not None else None
 
 
-def shown(line: Optional[bytes]) -> str:
+def shown(line: Optional[Line]) -> str:
     """A line as plain text, cut if it is long."""
     if line is None:
         return "(the end of the output)"
-    ended = line.endswith(b"\n")
-    text = line.rstrip(b"\n").decode("latin-1")
+    tested = isinstance(line, Tested)
+    ended = tested or line.endswith(b"\n")
+    text = str(line) if tested else line.rstrip(b"\n").decode("latin-1")
     text = "".join(c if " " <= c <= "~" else f"\\x{ord(c):02x}" for c in text)
     if len(text) > SHOWN:
         text = f"{text[:SHOWN]}.. ({len(text)} characters)"
@@ -199,6 +211,8 @@ def print_difference(found: Difference) -> None:
     print(f"Line {found.line + 1} of the output:")
     print(f"    expected: {shown(found.expected)}")
     print(f"    actual:   {shown(found.actual)}")
+    if isinstance(found.expected, Tested) and found.actual is not None:
+        print(f"    wrong:    {found.expected.fault(found.actual)}")
     if found.outcome.trouble:
         print(f"The program {found.outcome.trouble}.")
     if found.outcome.stderr:
@@ -240,7 +254,7 @@ def compare(program: Program, suite: Suite, seed: int) -> bool:
         model = Replay()
         printed = [model.feed(script) for script in scripts]
         batch = b"".join(scripts)
-        found = program.difference(batch, b"".join(printed), BATCH_SECONDS)
+        found = program.difference(batch, [line for lines in printed for line in lines], BATCH_SECONDS)
         if found is not None and cases[group[0]].big:
             print_case(suite, seed, group[0], len(cases))
             print_difference(found)
@@ -249,7 +263,7 @@ def compare(program: Program, suite: Suite, seed: int) -> bool:
             index, script = reduced(program, scripts, differing_case(printed, found.line))
             report(program, suite, seed, group[index], len(cases), script, batch)
             return False
-        answers += sum(text.count(b"\n") for text in printed)
+        answers += sum(len(lines) for lines in printed)
     things = sum(case.things for case in cases)
     print(f"{suite.topic}: {things} {suite.noun}, {answers} answers, all as the oracle says", flush=True)
     return True

@@ -6,14 +6,19 @@ from __future__ import annotations
 import re
 from dataclasses import dataclass
 from functools import lru_cache
-from typing import Any, Callable, Optional
+from typing import Any, Callable, Optional, Union
 
+from oracle.answers import Line, Tested
+from oracle.graphs import Chart, find_answer, search_answer
 from oracle.queues import LETTERS, Queue, Refusal
 from oracle.tables import TablesInHand
 
 _BLANKS = re.compile(rb"[ \t\r]+")
 _DIGITS = re.compile(rb"[0-9]+")
 _HEX = re.compile(rb"(?:[0-9a-fA-F]{2})*")
+
+#: What a command answers: the line to print without its LF, or which lines are right.
+Answer = Union[str, Tested]
 
 #: The most memory that a script can give to a queue, in bytes.
 MOST_MEMORY = 2_097_152
@@ -29,6 +34,14 @@ class World:
     def __init__(self) -> None:
         self.tables = TablesInHand()
         self.queue = Queue("ring", 0)
+        self._chart = Chart(self.tables.table)
+
+    @property
+    def chart(self) -> Chart:
+        """The chart of the table in hand."""
+        if self._chart.table is not self.tables.table:
+            self._chart = Chart(self.tables.table)
+        return self._chart
 
 
 # Operands.
@@ -81,7 +94,7 @@ def hexadecimal(words: list[bytes]) -> bytes:
     return bytes.fromhex(digits.decode("ascii"))
 
 
-# Commands. Each is given the world and its operands, and answers the line to print.
+# Commands. Each is given the world and its operands.
 
 
 def _share(world: World) -> str:
@@ -113,6 +126,19 @@ def _next(world: World, state: int, on: int) -> str:
 
 def _label(world: World, state: int) -> str:
     return f"label {state} -> {_or_none(world.tables.table.label(state))}"
+
+
+def _open(world: World, state: int) -> str:
+    answer = {True: "yes", False: "no", None: "none"}[world.chart.is_open(state)]
+    return f"open {state} -> {answer}"
+
+
+def _search(world: World, start: int, end: int) -> Answer:
+    return search_answer(world.chart.graph, start, end)
+
+
+def _find(world: World) -> Answer:
+    return find_answer(world.chart.graph)
 
 
 def _queue(world: World, name: str, length: int) -> str:
@@ -152,7 +178,7 @@ class Command:
     the words after those, however many they are.
     """
 
-    call: Callable[..., str]
+    call: Callable[..., Answer]
     operands: tuple[Callable[[bytes], Any], ...] = ()
     rest: Optional[Callable[[list[bytes]], Any]] = None
 
@@ -176,6 +202,9 @@ COMMANDS: dict[bytes, Command] = {
     b"states": Command(_states),
     b"next": Command(_next, (number, byte)),
     b"label": Command(_label, (number,)),
+    b"open": Command(_open, (number,)),
+    b"search": Command(_search, (number, number)),
+    b"find": Command(_find),
     b"queue": Command(_queue, (kind, memory)),
     b"count": Command(_count),
     b"limit": Command(_limit),
@@ -189,7 +218,7 @@ COMMANDS: dict[bytes, Command] = {
 
 
 @lru_cache(maxsize=512)
-def _read(line: bytes) -> Optional[tuple[Callable[..., str], list[Any]]]:
+def _read(line: bytes) -> Optional[tuple[Callable[..., Answer], list[Any]]]:
     """The call that a line makes and what it is given, or None where it is passed over.
     Lines that come again and again are read once."""
     words = [word for word in _BLANKS.split(line) if word]
@@ -208,26 +237,27 @@ class Replay:
         self.world = World()
         self.line = 0
 
-    def feed(self, script: bytes) -> bytes:
-        """What is printed for the next lines of the script."""
+    def feed(self, script: bytes) -> list[Line]:
+        """The lines that are printed for the next lines of the script."""
         lines = script.split(b"\n")
         if not lines[-1]:
             lines.pop()
-        return b"".join(self._answer(line) for line in lines)
+        answers = (self._answer(line) for line in lines)
+        return [answer for answer in answers if answer is not None]
 
-    def _answer(self, line: bytes) -> bytes:
+    def _answer(self, line: bytes) -> Optional[Line]:
         self.line += 1
         try:
             read = _read(line)
             if read is None:
-                return b""
+                return None
             call, values = read
-            text = call(self.world, *values)
+            answer = call(self.world, *values)
         except Mistake as mistake:
-            text = f"line {self.line}: {mistake}"
-        return text.encode("ascii") + b"\n"
+            answer = f"line {self.line}: {mistake}"
+        return answer.encode("ascii") + b"\n" if isinstance(answer, str) else answer
 
 
-def expected(script: bytes) -> bytes:
-    """What `replay` must print for a script."""
+def expected(script: bytes) -> list[Line]:
+    """The lines that `replay` must print for a script."""
     return Replay().feed(script)

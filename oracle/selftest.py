@@ -1,4 +1,4 @@
-"""Tests of the model itself, on tables, images, queues and scripts made by hand."""
+"""Tests of the model itself, on tables, images, graphs, queues and scripts made by hand."""
 
 from __future__ import annotations
 
@@ -12,9 +12,19 @@ from random import Random
 
 sys.path.insert(0, str(Path(__file__).resolve().parent.parent))
 
-from oracle import compare_replay  # noqa: E402
+from oracle import compare_replay, suite_graphs  # noqa: E402
+from oracle.answers import Tested, examples, is_right  # noqa: E402
 from oracle.cases import Case, Suite  # noqa: E402
 from oracle.generate import any_table, cut_lengths, load_line, random_table, with_byte, with_count  # noqa: E402
+from oracle.graphs import (  # noqa: E402
+    Graph,
+    Walk,
+    find_answer,
+    forward_graph,
+    open_states,
+    read_walk,
+    search_answer,
+)
 from oracle.queues import LETTERS, Queue, Refusal  # noqa: E402
 from oracle.script import COMMANDS, Replay, expected  # noqa: E402
 from oracle.tables import (  # noqa: E402
@@ -162,6 +172,200 @@ class Share(unittest.TestCase):
         self.assertEqual(parse_image(write_image(share_table())), share_table())
 
 
+class OpenStates(unittest.TestCase):
+    def test_tables_made_by_hand(self) -> None:
+        self.assertEqual(open_states(empty_table()), set())
+        self.assertEqual(open_states(share_table()), {0, 1, 2, 3, 4, 5, 6})
+        table = parse_image(TWO)
+        assert isinstance(table, RuleTable)
+        self.assertEqual(open_states(table), {0, 1})
+
+    def test_by_words(self) -> None:
+        """The states after words of one byte, of two, and so on."""
+        random = Random(8)
+        for _ in range(100):
+            table = random.choice(suite_graphs.SHAPES)(random, random.randint(1, 6))
+            for state in range(table.states):
+                reached: set[int] = set()
+                front = {state}
+                while front:
+                    front = {after for s in front for b in range(256) if (after := table.next(s, b)) not in reached}
+                    reached |= front
+                self.assertEqual(state in open_states(table), any(table.label(s) for s in reached))
+
+    def test_shapes(self) -> None:
+        random = Random(9)
+        for states in (*range(1, 10), 128):
+            for aside in suite_graphs.ASIDE:
+                self.assertEqual(open_states(suite_graphs.chain_of(random, states, aside, [])), set())
+                for one in {0, states // 2, states - 1}:
+                    count = {"stay": one + 1, "last": states if one == states - 1 else one}.get(aside, states)
+                    table = suite_graphs.chain_of(random, states, aside, [one])
+                    self.assertEqual(open_states(table), set(range(count)))
+            for _ in range(5):
+                self.assertEqual(open_states(suite_graphs.tokenless(random, states)), set())
+                self.assertEqual(open_states(suite_graphs.class_of_no_byte(random, states)), set())
+                self.assertNotIn(0, open_states(suite_graphs.closed_start(random, states)))
+                table = suite_graphs.apart(random, states)
+                after = forward_graph(table).after
+                self.assertEqual(open_states(table), {s for s in range(states) if table.labels[s] and s in after[s]})
+
+    def test_renumbered(self) -> None:
+        table = RuleTable((0,) * 256, (0, 5, 9), ((1,), (2,), (2,)))
+        self.assertEqual(
+            suite_graphs.renumbered(table, [2, 0, 1]), RuleTable((0,) * 256, (5, 9, 0), ((1,), (1,), (0,)))
+        )
+
+
+#: Three nodes in a row, and one that leads to the last of them; some slots lead nowhere.
+ROW = Graph(((1, None), (None, 2), (None, None), (2, 2)))
+
+#: A ring of three nodes with a way across, and one that leads into it and to itself.
+RING = Graph(((1, 2), (2, None), (0, None), (0, 3)))
+
+
+class Graphs(unittest.TestCase):
+    def test_a_walk(self) -> None:
+        walk = Walk(7, ((0, 2), (255, 7)))
+        self.assertEqual((str(walk), walk.last, walk.length), ("7 0 2 255 7", 7, 2))
+        self.assertEqual(list(walk.steps()), [(7, 0, 2), (2, 255, 7)])
+        self.assertEqual(read_walk("7 0 2 255 7"), walk)
+        self.assertEqual(read_walk("12"), Walk(12))
+        bad = ("", " ", "7 0", "7  0 2", "7 0 2 ", " 7", "07", "7 00 2", "-7", "+7", "7 0 x", "7,0,2", "7\t0 2", "7\n")
+        for text in (*bad, "\u0661", "9" * 5000):
+            self.assertIsNone(read_walk(text), text)
+
+    def test_edges(self) -> None:
+        self.assertEqual([ROW.leads(0, slot) for slot in (0, 1, 2, 2**64)], [1, None, None, None])
+        self.assertEqual([ROW.leads(node, 0) for node in range(6)], [1, None, None, 2, None, None])
+        graph = forward_graph(share_table())
+        for state in range(12):
+            for byte in range(256):
+                self.assertEqual(graph.leads(state, byte), share_table().next(state, byte))
+
+    def test_paths(self) -> None:
+        self.assertEqual(ROW.path(0, 2), Walk(0, ((0, 1), (1, 2))))
+        for start, end in ((0, 0), (2, 2), (1, 0), (2, 0), (0, 3), (4, 0), (0, 4), (9, 9)):
+            self.assertIsNone(ROW.path(start, end))
+        self.assertEqual(RING.path(0, 2), Walk(0, ((1, 2),)))
+        self.assertEqual(RING.path(1, 1), Walk(1, ((0, 2), (0, 0), (0, 1))))
+        self.assertEqual(RING.path(3, 3), Walk(3, ((1, 3),)))
+        self.assertIsNone(RING.path(0, 3))
+
+    def test_cycles_and_longest_paths(self) -> None:
+        self.assertIsNone(ROW.cycle())
+        self.assertEqual(ROW.longest(), Walk(0, ((0, 1), (1, 2))))
+        self.assertEqual(Graph(((None,), ())).longest(), Walk(0))
+        self.assertEqual(RING.cycle(), Walk(0, ((1, 2), (0, 0))))
+        self.assertEqual(forward_graph(empty_table()).cycle(), Walk(0, ((255, 0),)))
+
+    def test_every_table_has_a_cycle(self) -> None:
+        random = Random(10)
+        for _ in range(200):
+            table = random.choice(suite_graphs.SHAPES)(random, random.randint(1, 20))
+            self.assertIsNotNone(forward_graph(table).cycle())
+
+
+class TestedLines(unittest.TestCase):
+    def allows(self, line: object, *texts: str) -> None:
+        assert isinstance(line, Tested)
+        self.assertEqual(line.fault(line.example()), "")
+        for text in texts:
+            self.assertEqual(line.fault(text.encode() + b"\n"), "", text)
+            self.assertTrue(is_right(line, text.encode() + b"\n"))
+
+    def refuses(self, line: object, texts: dict[str, str]) -> None:
+        assert isinstance(line, Tested)
+        for text, why in texts.items():
+            self.assertEqual(line.fault(text.encode() + b"\n"), why, text)
+            self.assertFalse(is_right(line, text.encode() + b"\n"))
+
+    def test_a_search(self) -> None:
+        line = search_answer(RING, 0, 2)
+        self.allows(line, "search 0 2 -> path 0 1 2", "search 0 2 -> path 0 0 1 0 2")
+        self.allows(line, "search 0 2 -> path 0 1 2 0 0 1 2")
+        form = "it is not of this form"
+        self.refuses(
+            line,
+            {
+                "search 0 2 -> none": form,
+                "search 0 2 -> path": form,
+                "search 0 2 -> path ": form,
+                "search 0 2 -> path 0 1": form,
+                "search 0 2 -> path 0 1 2 ": form,
+                "search 0 2 -> path  0 1 2": form,
+                "search 0 2 -> path 0 01 2": form,
+                "search 0 2 -> 0 1 2": form,
+                "search 0 2 -> path 0 1 2\n": form,
+                "search 0 2 ->path 0 1 2": form,
+                "search 2 0 -> path 0 1 2": form,
+                "search 0 2 -> cycle 0 1 2": form,
+                "Search 0 2 -> path 0 1 2": form,
+                "": form,
+                "search 0 2 -> path 4 1 2": "there is no node 4",
+                "search 0 2 -> path 0 0 2": "slot 0 of node 0 does not lead to node 2",
+                "search 0 2 -> path 0 2 2": "slot 2 of node 0 does not lead to node 2",
+                "search 0 2 -> path 0 0 1 1 2": "slot 1 of node 1 does not lead to node 2",
+                "search 0 2 -> path 0 1 2 0 4": "slot 0 of node 2 does not lead to node 4",
+                "search 0 2 -> path 0": "it leads from node 0 to node 0",
+                "search 0 2 -> path 0 0 1": "it leads from node 0 to node 1",
+                "search 0 2 -> path 1 0 2": "it leads from node 1 to node 2",
+                "search 0 2 -> path 0 1 2 0 0": "it leads from node 0 to node 0",
+                "search 0 2 -> path 0 0 1 0 2 0 0 0 1 0 2": "it has 5 edges",
+            },
+        )
+        assert isinstance(line, Tested)
+        self.assertEqual(line.fault(line.example().rstrip()), form)
+
+    def test_a_search_for_the_node_itself(self) -> None:
+        line = search_answer(RING, 0, 0)
+        self.allows(line, "search 0 0 -> path 0 1 2 0 0", "search 0 0 -> path 0 0 1 0 2 0 0")
+        self.refuses(line, {"search 0 0 -> path 0": "it has 0 edges", "search 0 0 -> none": "it is not of this form"})
+
+    def test_no_path(self) -> None:
+        for start, end in ((0, 3), (4, 0), (0, 4), (2**64 - 1, 2**64 - 1)):
+            self.assertEqual(search_answer(RING, start, end), f"search {start} {end} -> none")
+        self.assertEqual(search_answer(ROW, 0, 0), "search 0 0 -> none")
+
+    def test_a_cycle(self) -> None:
+        line = find_answer(RING)
+        self.allows(line, "find -> cycle 0 1 2 0 0", "find -> cycle 2 0 0 0 1 0 2", "find -> cycle 3 1 3")
+        self.refuses(
+            line,
+            {
+                "find -> cycle 0": "it has 0 edges",
+                "find -> cycle 0 1 2": "it leads from node 0 to node 2",
+                "find -> cycle 3 0 0": "it leads from node 3 to node 0",
+                "find -> cycle 3 1 3 1 3 1 3 1 3 1 3": "it has 5 edges",
+                "find -> cycle 0 0 2 0 0": "slot 0 of node 0 does not lead to node 2",
+                "find -> cycle 4 0 4": "there is no node 4",
+                "find -> longest path 0 1 2": "it is not of this form",
+                "find -> none": "it is not of this form",
+                "find -> 3 1 3": "it is not of this form",
+            },
+        )
+
+    def test_a_longest_path(self) -> None:
+        line = find_answer(ROW)
+        self.allows(line, "find -> longest path 0 0 1 1 2")
+        self.refuses(
+            line,
+            {
+                "find -> longest path 1 1 2": "it has 1 edges",
+                "find -> longest path 0": "it has 0 edges",
+                "find -> longest path 0 0 1 0 2": "slot 0 of node 1 does not lead to node 2",
+                "find -> cycle 0 0 1 1 2": "it is not of this form",
+            },
+        )
+        self.allows(find_answer(Graph(((None,), ()))), "find -> longest path 0", "find -> longest path 1")
+        self.refuses(find_answer(Graph(((None,), ()))), {"find -> longest path 2": "there is no node 2"})
+
+    def test_a_text(self) -> None:
+        self.assertTrue(is_right(b"open 0 -> no\n", b"open 0 -> no\n"))
+        self.assertFalse(is_right(b"open 0 -> no\n", b"open 0 -> no"))
+        self.assertFalse(is_right(b"open 0 -> no\n", b"open 0 -> yes\n"))
+
+
 class Queues(unittest.TestCase):
     def has(self, queue: Queue, *elements: int) -> None:
         """The queue has these elements and no more."""
@@ -233,7 +437,7 @@ class Queues(unittest.TestCase):
 
 class Scripts(unittest.TestCase):
     def prints(self, script: bytes, *lines: str) -> None:
-        self.assertEqual(expected(script), "".join(line + "\n" for line in lines).encode("ascii"))
+        self.assertEqual(expected(script), [line.encode("ascii") + b"\n" for line in lines])
 
     def test_each_command(self) -> None:
         self.prints(b"table\nstates\n", "table -> loaded table, states 1", "states -> 1")
@@ -241,6 +445,29 @@ class Scripts(unittest.TestCase):
         self.prints(b"share\nnext 0 97\nnext 11 97\n", "share -> ok", "next 0 97 -> 4", "next 11 97 -> none")
         self.prints(b"label 0\nlabel 1", "label 0 -> 0", "label 1 -> none")
         self.prints(load_line(TWO) + b"\nlabel 1\n", "load 268 bytes -> ok", "label 1 -> 7")
+
+    def test_each_command_of_a_chart(self) -> None:
+        self.prints(b"open 0\nopen 01\nsearch 00 1", "open 0 -> no", "open 1 -> none", "search 0 1 -> none")
+        self.prints(
+            b"share\nopen 6\nopen 7\nopen 11\nsearch 7 0\nload\nopen 6\n",
+            "share -> ok",
+            "open 6 -> yes",
+            "open 7 -> no",
+            "open 11 -> none",
+            "search 7 0 -> none",
+            f"load 0 bytes -> refused: {Fault(1, 0)}",
+            "open 6 -> yes",
+        )
+        script = b"share\nopen 1\n" + load_line(TWO) + b"\nopen 1\nopen 2\nshare\nopen 2\n"
+        opened = [line for line in expected(script) if isinstance(line, bytes) and line.startswith(b"open")]
+        self.assertEqual(opened, [b"open 1 -> yes\n", b"open 1 -> yes\n", b"open 2 -> none\n", b"open 2 -> yes\n"])
+        lines = expected(b"find\nsearch 0 0\nshare\nsearch 0 7\nfind\n")
+        right = (
+            b"find -> cycle 0 9 0\n", b"search 0 0 -> path 0 0 0\n", b"share -> ok\n",
+            b"search 0 7 -> path 0 13 6 10 7\n", b"find -> cycle 10 0 10\n",
+        )  # fmt: skip
+        for line, actual in zip(lines, right, strict=True):
+            self.assertTrue(is_right(line, actual), actual)
 
     def test_each_command_of_a_queue(self) -> None:
         self.prints(
@@ -330,10 +557,10 @@ class Scripts(unittest.TestCase):
         self.prints(script, "share -> ok", "load 268 bytes -> ok", "states -> 2", "share -> ok", "states -> 11")
 
     def test_hexadecimal(self) -> None:
-        self.assertEqual(expected(b"load\n"), b"load 0 bytes -> refused: %b\n" % str(Fault(1, 0)).encode())
-        self.assertEqual(expected(b"load 0 1\n"), b"load 1 bytes -> refused: %b\n" % str(Fault(1, 1)).encode())
-        for line in (b"load 0", b"load 01 0", b"load 0g", b"load 0x01", b"load 01 #", b"load \xc3\xa9"):
-            self.prints(line, "line 1: not hexadecimal")
+        self.prints(b"load\n", f"load 0 bytes -> refused: {Fault(1, 0)}")
+        self.prints(b"load 0 1\n", f"load 1 bytes -> refused: {Fault(1, 1)}")
+        for digits in (b"0", b"01 0", b"0g", b"0x01", b"01 #", b"\xc3\xa9"):
+            self.prints(b"load " + digits, "line 1: not hexadecimal")
         random = Random(7)
         for _ in range(20):
             line = load_line(with_byte(TWO, 260, 0xAB), random) + b"\nlabel 0\n"
@@ -348,14 +575,19 @@ class Scripts(unittest.TestCase):
             self.prints(b"label " + word, "line 1: not a number")
             self.prints(b"next " + word + b" 300", "line 1: not a number")
             self.prints(b"next 1 " + word, "line 1: not a byte")
+            self.prints(b"open " + word, "line 1: not a number")
+            self.prints(b"search " + word + b" 1", "line 1: not a number")
+            self.prints(b"search 1 " + word, "line 1: not a number")
         self.prints(b"next 1 256", "line 1: not a byte")
 
     def test_the_number_of_words(self) -> None:
-        tables = {b"share", b"load", b"table", b"states", b"next", b"label"}
+        tables = {b"share", b"load", b"table", b"states", b"next", b"label", b"open", b"search", b"find"}
         self.assertEqual(set(COMMANDS) - tables, {b"queue", b"count", b"limit", b"element", b"put", b"drop"})
-        for line in (b"next", b"next 1", b"next x", b"label"):
+        for line in (b"next", b"next 1", b"next x", b"label", b"open", b"search", b"search x"):
             self.prints(line, "line 1: too few words")
         for line in (b"share x", b"table 1", b"states #", b"next x y z", b"label x y"):
+            self.prints(line, "line 1: too many words")
+        for line in (b"open x y", b"search x y z", b"find x"):
             self.prints(line, "line 1: too many words")
         for line in (b"foo", b"Share", b"share\x0b", b"\0", b"\xff", b"foo 1 2"):
             self.prints(line, "line 1: no such command")
@@ -369,7 +601,7 @@ class Scripts(unittest.TestCase):
     def test_piece_by_piece(self) -> None:
         pieces = [b"share\nfoo\n", b"table\n\n", b"bar\n"]
         model = Replay()
-        self.assertEqual(b"".join(model.feed(piece) for piece in pieces), expected(b"".join(pieces)))
+        self.assertEqual([line for piece in pieces for line in model.feed(piece)], expected(b"".join(pieces)))
 
 
 class Suites(unittest.TestCase):
@@ -379,9 +611,23 @@ class Suites(unittest.TestCase):
                 self.assertTrue(case.alone or case.script.endswith(b"\n"))
 
     def test_a_seed_gives_the_same_cases(self) -> None:
-        for topic in ("script", "share"):
+        for topic in ("script", "share", "graphs"):
             suite = compare_replay.SUITES[topic]
             self.assertEqual(suite.cases(4), suite.cases(4))
+
+    def test_the_tables_of_graphs(self) -> None:
+        tables = list(suite_graphs.tables(Random(11)))
+        self.assertGreaterEqual(len(tables), 1_000)
+        self.assertEqual({table.states for table in tables}, set(range(1, 129)))
+        for table in tables:
+            self.assertEqual(parse_image(write_image(table)), table)
+
+    def test_every_example_is_right(self) -> None:
+        scripts = (case.script for case in compare_replay.SUITES["graphs"].cases(5))
+        tested = [line for script in scripts for line in expected(script) if isinstance(line, Tested)]
+        self.assertGreater(len(tested), 5_000)
+        for line in tested:
+            self.assertEqual(line.fault(line.example()), "")
 
 
 #: A program that answers by the model, but for what is changed in it first.
@@ -389,9 +635,9 @@ STAND_IN = """#!{python}
 import sys
 sys.dont_write_bytecode = True
 sys.path.insert(0, {root!r})
-from oracle import queues, script, tables
+from oracle import answers, graphs, queues, script, tables
 {change}
-sys.stdout.buffer.write(script.expected(sys.stdin.buffer.read()))
+sys.stdout.buffer.write(answers.examples(script.expected(sys.stdin.buffer.read())))
 """
 
 REFUSED_LOAD_SWITCHES = """
@@ -426,6 +672,22 @@ def early(self, byte):
 queues.Queue.put = early
 """
 
+PATHS_OF_ONE_EDGE = """
+search = graphs.search_answer
+def one_edge(graph, start, end):
+    line = search(graph, start, end)
+    return line if isinstance(line, str) else f"search {start} {end} -> path {start} 48 {end}"
+script.search_answer = one_edge
+"""
+
+SEVEN_OPEN = """
+is_open = graphs.Chart.is_open
+def opened(self, state):
+    answer = is_open(self, state)
+    return True if state == 7 and answer is not None else answer
+graphs.Chart.is_open = opened
+"""
+
 ENDS_BADLY = """
 if b"label 9" in sys.stdin.buffer.peek():
     sys.exit(3)
@@ -445,6 +707,10 @@ QUEUES = [
     Case(b"queue ring 1\nput 7\nput 8\ncount\n"),
     Case(b"queue straight 1\nlimit\nput 7\nput 8\ndrop 2\ndrop 1\n"),
     Case(b"queue ring 3\nput 1\nput 2\nelement 0\nput 3\nelement 2\n"),
+]
+GRAPHS = [
+    Case(b"share\nfind\nsearch 0 1\n"),
+    Case(b"table\nopen 0\nshare\nsearch 0 1\nsearch 0 3\nopen 7\nfind\n"),
 ]
 
 
@@ -473,6 +739,34 @@ class Driver(unittest.TestCase):
         passed, printed, _ = self.compare("", QUEUES)
         self.assertTrue(passed)
         self.assertEqual(printed, "made: 3 scripts, 16 answers, all as the oracle says\n")
+        passed, printed, _ = self.compare("", GRAPHS)
+        self.assertTrue(passed)
+        self.assertEqual(printed, "made: 2 scripts, 10 answers, all as the oracle says\n")
+
+    def test_another_path_is_right_too(self) -> None:
+        self.assertIn(b"search 0 1 -> path 0 57 1\n", examples(expected(GRAPHS[0].script)))
+        passed, printed, _ = self.compare(PATHS_OF_ONE_EDGE, GRAPHS[:1])
+        self.assertTrue(passed)
+        self.assertEqual(printed, "made: 1 scripts, 3 answers, all as the oracle says\n")
+
+    def test_an_edge_that_is_not_there(self) -> None:
+        passed, printed, script = self.compare(PATHS_OF_ONE_EDGE, GRAPHS)
+        self.assertFalse(passed)
+        self.assertIn("made: not as the oracle says: seed 1, case 2 of 2\n", printed)
+        self.assertIn(
+            "Line 2 of the output:\n"
+            "    expected: search 0 3 -> path (1 to 11 edges from node 0 to node 3, as 0 57 1 46 2 57 3)\n"
+            "    actual:   search 0 3 -> path 0 48 3\n"
+            "    wrong:    slot 48 of node 0 does not lead to node 3\n",
+            printed,
+        )
+        self.assertEqual(script, b"share\nsearch 0 3\n")
+
+    def test_a_closed_state_that_is_told_open(self) -> None:
+        passed, printed, script = self.compare(SEVEN_OPEN, GRAPHS)
+        self.assertFalse(passed)
+        self.assertIn("    expected: open 7 -> no\n    actual:   open 7 -> yes\nRun", printed)
+        self.assertEqual(script, b"share\nopen 7\n")
 
     def test_a_refused_load_that_switches_the_table(self) -> None:
         passed, printed, script = self.compare(REFUSED_LOAD_SWITCHES)

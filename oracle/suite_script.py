@@ -15,7 +15,8 @@ NO_COMMANDS = [
     b"'share'", b"share#", b"next,1,2", b"next\0 1 2", b"\0", b"\0share", b"\x7f", b"\x0b", b"\x0c",
     b"share\x0b", b"\x0cshare", b"share\x0btable", b"share\xa0", b"\xc2\xa0share", b"\xc3\xa9", b"\xff\xfe",
     b"\xef\xbb\xbfshare", b"\x80" * 40, bytes(range(128, 256)), b"caf\xc3\xa9 1 2", b"x" * 17_200,
-    b"ok", b"line 1: no such command", b"table\x85", b"foo #", b"; share", b"// share", b"\\share",
+    b"ok", b"line 1: no such command", b"table\x85", b"foo #", b"; share", b"// share", b"\\share", b"Open 1",
+    b"opens 1", b"ope 1", b"searches 1 2", b"searc 1 2", b"FIND", b"finds", b"fin",
 ]  # fmt: skip
 
 NUMBERS = [
@@ -60,15 +61,20 @@ def _operand_lines() -> Iterator[bytes]:
         yield b"label " + word
         yield b"next " + word + b" 97"
         yield b"next 0 " + word
+        yield b"open " + word
+        yield b"search " + word + b" 4"
+        yield b"search 0 " + word
     for word in (b"x", b"18446744073709551616", b"256", b"18446744073709551615"):
         for other in (b"y", b"256", b"255", b"18446744073709551616"):
             yield b"next " + word + b" " + other
-    for command in (b"share", b"table", b"states", b"next", b"label"):
+            yield b"search " + word + b" " + other
+    for command in (b"share", b"table", b"states", b"next", b"label", b"open", b"search", b"find"):
         for more in range(5):
             for word in (b"1", b"x", b"#", b"300"):
                 yield command + (b" " + word) * more
     yield b"next 1 2 # a comment"
     yield b"share # a comment"
+    yield b"find # a comment"
     yield b"next " + b"1 " * 8_000
     yield b"label" + b" " * 17_000 + b"4"
     yield b" " * 17_000 + b"label 4" + b"\t" * 17_000
@@ -79,7 +85,8 @@ def _ends_of_lines() -> Iterator[Case]:
     ends = (
         b"", b"\n", b"\r", b"\r\n", b" ", b"\t\r ", b"\n\n\n", b"#", b"# c", b"states", b"table\r", b"share\n table ",
         b"foo", b"\nfoo", b"\r\n\r\nfoo\r\n", b"#\nfoo\n", b"load", b"load ", b"load\n", b"load 0", b"load 00",
-        b"next 0 0", b"next 0", b"label 1", b"label 0\nlabel x", b"table\nshare\ntable", b"\0", b"\xff",
+        b"open 0", b"open 1", b"search 0 0", b"search 0", b"find", b"find x", b"next 0 0", b"next 0", b"label 1",
+        b"label 0\nlabel x", b"table\nshare\ntable", b"\0", b"\xff",
         b"share\r\ntable\r\nnext 0 97\r\n", b"foo\rbar\n", b"share\rtable\n", b"states\n\n\nbar\n# c\nbar",
     )  # fmt: skip
     for script in ends:
@@ -90,9 +97,11 @@ def _ends_of_lines() -> Iterator[Case]:
 
 def _words(random: Random) -> bytes:
     """A line of words that are often right, with any blanks."""
-    known = (b"share", b"table", b"states", b"next", b"label", b"load")
+    known = (b"share", b"table", b"states", b"next", b"label", b"load", b"open", b"search", b"find")
     first = random.choice(known) if random.randrange(8) else random.choice(NO_COMMANDS[:40])
-    takes = {b"next": 2, b"label": 1, b"load": random.randrange(4)}.get(first, 0)
+    takes = {b"next": 2, b"label": 1, b"open": 1, b"search": 2}.get(first, 0)
+    if first == b"load":
+        takes = random.randrange(4)
     if random.randrange(8) == 0:
         takes = random.randrange(5)
     words = [first]
@@ -126,7 +135,10 @@ def cases(random: Random) -> Iterator[Case]:
             yield Case(script_of([b"share", b"load" + blank + digits] + ask_size()))
     for passed in BLANK_LINES + COMMENTS:
         yield Case(script_of([passed, b"share", passed, b"foo", passed, b"table"]))
-    for line in (b"share", b"table", b"states", b"next 0 97", b"label 4", b"load 00", b"foo", b"next 1"):
+    for line in (
+        b"share", b"table", b"states", b"next 0 97", b"label 4", b"load 00", b"foo", b"next 1", b"open 4",
+        b"search 0 4", b"find",
+    ):  # fmt: skip
         for before in (b"", b" ", b"\t", b"\r", b" \t\r "):
             for after in (b"", b" ", b"\t", b"\r", b" \t\r ", b"\r\r"):
                 yield Case(script_of([b"share", before + line + after, b"table" + after]))
