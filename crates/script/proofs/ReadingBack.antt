@@ -6,14 +6,14 @@ use Rattle.std.proofs.lemmas.Bool.{cond-false, le-ltb}
 use Rattle.std.proofs.lemmas.Bool.Decides.{nat_tests}
 use Rattle.std.specs.Option.{ok_or}
 use Rattle.script.specs.declared.command.Question.{Question}
-use Rattle.script.specs.declared.command.Question.TheVariants.{States, Next, Label, Open, Search, Find}
+use Rattle.script.specs.declared.command.Question.TheVariants.{States, Next, Label, Search, Find}
 use Rattle.script.specs.declared.request.Making.{Making}
 use Rattle.script.specs.declared.request.QueueKind.{QueueKind}
 use Rattle.script.specs.declared.request.QueueKind.TheVariants.{Ring, Straight}
 use Rattle.script.specs.declared.request.Request.TheVariants.{Count, Limit, Element, Put, Drop}
 use Rattle.script.specs.declared.mistake.Mistake.{Mistake}
 use Rattle.script.specs.declared.mistake.Mistake.TheVariants.{NotANumber, NotAByte, TooMuchMemory, NotHexadecimal}
-use Rattle.script.specs.Commands.{Call, share, load, table, ask, make, queue, says}
+use Rattle.script.specs.Commands.{Call, share, load, table, ask, ask_open, make, queue, says}
 use Rattle.script.specs.Hex.{hex_digit, byte_before, hex_bytes}
 use Rattle.script.specs.Numbers.{below}
 use Rattle.script.specs.Operands.{making}
@@ -77,11 +77,12 @@ says_back (ask (Next state byte)) fit =
     ap (λ o. asks_two Next NotAByte o (below 256 (decimal byte))) (decimal_below (2 ^ 64) state fit.0 fit.0)
     ∙ ap (asks_two Next NotAByte (Some state)) (decimal_below 256 byte fit.1 (omega (arith, fit.1)))
 says_back (ask (Label state)) fit = ap (with_one ask Label NotANumber) (decimal_below (2 ^ 64) state fit fit)
-says_back (ask (Open state)) fit = ap (with_one ask Open NotANumber) (decimal_below (2 ^ 64) state fit fit)
 says_back (ask (Search from to)) fit =
     ap (λ o. asks_two Search NotANumber o (below (2 ^ 64) (decimal to))) (decimal_below (2 ^ 64) from fit.0 fit.0)
     ∙ ap (asks_two Search NotANumber (Some from)) (decimal_below (2 ^ 64) to fit.1 fit.1)
 says_back (ask Find) fit = refl
+says_back (ask_open state) fit =
+    ap (λ o. line_with (and_then (ok_or o NotANumber) (λ n. Ok (ask_open n)))) (decimal_below (2 ^ 64) state fit fit)
 says_back (make m) fit = kind_back m.kind m.length fit
 says_back (queue Count) fit = refl
 says_back (queue Limit) fit = refl

@@ -8,9 +8,9 @@ use Rattle.script.specs.declared.command.Question.TheVariants as question
 use Rattle.script.specs.declared.mistake.Mistake.{Mistake}
 use Rattle.script.specs.declared.mistake.Mistake.TheVariants.{NoSuchCommand}
 use Rattle.script.specs.declared.name.Name.{Name}
-use Rattle.script.specs.declared.name.Name.TheVariants.{Share, Load, Table, Ask, Make, Queue}
+use Rattle.script.specs.declared.name.Name.TheVariants.{Share, Load, Table, Ask, Open, Make, Queue}
 use Rattle.script.specs.declared.name.Asked.{Asked}
-use Rattle.script.specs.declared.name.Asked.TheVariants.{States, Next, Label, Open, Search, Find}
+use Rattle.script.specs.declared.name.Asked.TheVariants.{States, Next, Label, Search, Find}
 use Rattle.script.specs.declared.name.Requested.{Requested}
 use Rattle.script.specs.declared.name.Requested.TheVariants.{Count, Limit, Element, Put, Drop}
 use Rattle.script.specs.declared.request.Making.{Making}
@@ -26,6 +26,7 @@ pub data Call : Type 0 where
   load : List ℕ → Call
   table : Call
   ask : Question → Call
+  ask_open : ℕ → Call
   make : Making → Call
   queue : Request → Call
 
@@ -34,6 +35,7 @@ call_of command.Share = share
 call_of (command.Load image) = load (vec_items image)
 call_of command.Table = table
 call_of (command.Ask q) = ask q
+call_of (command.Open state) = ask_open state
 call_of (command.Make m) = make m
 call_of (command.Queue r) = queue r
 
@@ -45,7 +47,6 @@ abbrev pub asks : Asked → List (List ℕ) → Result Question Mistake
 asks States ws = and_then (no_operand ws) (λ _. Ok question.States)
 asks Next ws = and_then (two number byte ws) (λ p. Ok (question.Next p.0 p.1))
 asks Label ws = and_then (one number ws) (λ s. Ok (question.Label s))
-asks Open ws = and_then (one number ws) (λ s. Ok (question.Open s))
 asks Search ws = and_then (two number number ws) (λ p. Ok (question.Search p.0 p.1))
 asks Find ws = and_then (no_operand ws) (λ _. Ok question.Find)
 
@@ -61,6 +62,7 @@ takes Share ws = and_then (no_operand ws) (λ _. Ok share)
 takes Load ws = and_then (hex_operand ws) (λ image. Ok (load image))
 takes Table ws = and_then (no_operand ws) (λ _. Ok table)
 takes (Ask asked) ws = and_then (asks asked ws) (λ q. Ok (ask q))
+takes Open ws = and_then (one number ws) (λ s. Ok (ask_open s))
 takes Make ws = and_then (kind_and_length ws) (λ m. Ok (make m))
 takes (Queue requested) ws = and_then (requests requested ws) (λ r. Ok (queue r))
 

@@ -1,11 +1,11 @@
 -- How lines are written: what stands in a line, and which lines say a command.
 use Rattle.std.specs.Prelude.{◌≡◌, ℕ, ◌+◌, ◌/◌, ◌%◌, ◌^◌, ◌<◌, ◌≤◌, Bool, true, false, cond, List, [], ◌∷◌, ◌++◌, map, length, Some, Ok, decimal, nat_lt}
-use Rattle.script.specs.declared.command.Question.TheVariants.{States, Next, Label, Open, Search, Find}
+use Rattle.script.specs.declared.command.Question.TheVariants.{States, Next, Label, Search, Find}
 use Rattle.script.specs.declared.name.Asked.TheVariants as asked
 use Rattle.script.specs.declared.name.Name.TheVariants as name
 use Rattle.script.specs.declared.name.Requested.TheVariants as requested
 use Rattle.script.specs.declared.request.Request.TheVariants.{Count, Limit, Element, Put, Drop}
-use Rattle.script.specs.Commands.{Call, share, load, table, ask, make, queue, says}
+use Rattle.script.specs.Commands.{Call, share, load, table, ask, ask_open, make, queue, says}
 use Rattle.script.specs.Kinds.{kind_spelled}
 use Rattle.script.specs.Names.{spelled}
 use Rattle.script.specs.Words.{blank, begins, words}
@@ -43,9 +43,9 @@ spells table = spelled name.Table ∷ []
 spells (ask States) = spelled (name.Ask asked.States) ∷ []
 spells (ask (Next state byte)) = spelled (name.Ask asked.Next) ∷ decimal state ∷ decimal byte ∷ []
 spells (ask (Label state)) = spelled (name.Ask asked.Label) ∷ decimal state ∷ []
-spells (ask (Open state)) = spelled (name.Ask asked.Open) ∷ decimal state ∷ []
 spells (ask (Search from to)) = spelled (name.Ask asked.Search) ∷ decimal from ∷ decimal to ∷ []
 spells (ask Find) = spelled (name.Ask asked.Find) ∷ []
+spells (ask_open state) = spelled name.Open ∷ decimal state ∷ []
 spells (make m) = spelled name.Make ∷ kind_spelled m.kind ∷ decimal m.length ∷ []
 spells (queue Count) = spelled (name.Queue requested.Count) ∷ []
 spells (queue Limit) = spelled (name.Queue requested.Limit) ∷ []
@@ -65,9 +65,9 @@ Fit table = Unit {0}
 Fit (ask States) = Unit {0}
 Fit (ask (Next state byte)) = (state < 2 ^ 64) × (byte < 256)
 Fit (ask (Label state)) = state < 2 ^ 64
-Fit (ask (Open state)) = state < 2 ^ 64
 Fit (ask (Search from to)) = (from < 2 ^ 64) × (to < 2 ^ 64)
 Fit (ask Find) = Unit {0}
+Fit (ask_open state) = state < 2 ^ 64
 Fit (make m) = m.length ≤ 2097152
 Fit (queue Count) = Unit {0}
 Fit (queue Limit) = Unit {0}

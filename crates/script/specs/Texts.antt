@@ -24,7 +24,6 @@ abbrev pub question_text : Question → List ℕ
 question_text question.States = codes "states"
 question_text (question.Next state byte) = codes "next " ++ (decimal state ++ (codes " " ++ decimal byte))
 question_text (question.Label state) = codes "label " ++ decimal state
-question_text (question.Open state) = codes "open " ++ decimal state
 question_text (question.Search from to) = codes "search " ++ (decimal from ++ (codes " " ++ decimal to))
 question_text question.Find = codes "find"
 
@@ -40,5 +39,6 @@ call_text command.Share = codes "share"
 call_text (command.Load image) = codes "load " ++ (decimal (vec_len image) ++ codes " bytes")
 call_text command.Table = codes "table"
 call_text (command.Ask q) = question_text q
+call_text (command.Open state) = codes "open " ++ decimal state
 call_text (command.Make m) = codes "queue " ++ (kind_spelled m.kind ++ (codes " " ++ decimal m.length))
 call_text (command.Queue r) = request_text r

@@ -19,8 +19,6 @@ pub enum Question {
     States,
     Next { state: usize, byte: u8 },
     Label { state: usize },
-    // Whether some word of at least one byte leads from the state to an accepting one.
-    Open { state: usize },
     // A path of one edge or more in the forward graph.
     Search { from: usize, to: usize },
     // A cycle of the forward graph, or a longest path where it has none.
@@ -38,6 +36,8 @@ pub enum Command {
     Table,
     // Ask the table in hand.
     Ask(Question),
+    // Ask the table in hand, charted, whether some word of at least one byte leads from the state to an accepting one.
+    Open { state: usize },
     // Make a queue, and take it in hand.
     Make(Making),
     // Make a call on the queue in hand.
@@ -61,7 +61,6 @@ impl Question {
             Asked::States => no_operand(words).map(|()| Question::States),
             Asked::Next => two(words).map(|(state, byte)| Question::Next { state, byte }),
             Asked::Label => one(words).map(|state| Question::Label { state }),
-            Asked::Open => one(words).map(|state| Question::Open { state }),
             Asked::Search => two(words).map(|(from, to)| Question::Search { from, to }),
             Asked::Find => no_operand(words).map(|()| Question::Find),
         }
@@ -99,6 +98,7 @@ impl Command {
                 Ok(Command::Table)
             }
             Name::Ask(asked) => Ok(Command::Ask(Question::with_operands(asked, words)?)),
+            Name::Open => Ok(Command::Open { state: one(words)? }),
             Name::Make => Ok(Command::Make(kind_and_length(words)?)),
             Name::Queue(requested) => Ok(Command::Queue(Request::with_operands(requested, words)?)),
         }

@@ -42,7 +42,6 @@ impl fmt::Display for Question {
             Question::States => write!(f, "states"),
             Question::Next { state, byte } => write!(f, "next {state} {byte}"),
             Question::Label { state } => write!(f, "label {state}"),
-            Question::Open { state } => write!(f, "open {state}"),
             Question::Search { from, to } => write!(f, "search {from} {to}"),
             Question::Find => write!(f, "find"),
         }
@@ -75,6 +74,7 @@ impl fmt::Display for Command {
             }
             Command::Table => write!(f, "table"),
             Command::Ask(question) => write!(f, "{question}"),
+            Command::Open { state } => write!(f, "open {state}"),
             Command::Make(making) => {
                 let kind = making.kind;
                 let length = making.length;

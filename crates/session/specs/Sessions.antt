@@ -3,7 +3,7 @@ use Rattle.std.specs.Prelude.{◌≡◌, ℕ, Bool, min, ◌⊎◌, List, [], So
 use Rattle.images.specs.Image.{WritesDown, HasFault}
 use Rattle.images.specs.Loaded.{table_of}
 use Rattle.graphs.specs.Nodes.{has}
-use Rattle.tables.specs.Openness.{TellsRightly}
+use Rattle.tables.specs.Openness.{TellsRightly, tells_open}
 use Rattle.tables.specs.Share.{share_marks, share_table}
 use Rattle.tables.specs.Table.{Table, Empty}
 use Rattle.images.specs.declared.faults.LoadFault.{LoadFault}
@@ -17,7 +17,7 @@ use Rattle.session.specs.Telling.{Tells}
 use Rattle.script.specs.Commands.{call_of, says}
 use Rattle.script.specs.Words.{words}
 use Rattle.session.specs.declared.answer.Answer.{Answer}
-use Rattle.session.specs.declared.answer.Answer.TheVariants.{Done, Refused, InHand}
+use Rattle.session.specs.declared.answer.Answer.TheVariants.{Done, Refused, InHand, Open}
 use Rattle.session.specs.declared.answer.Hand.{Hand}
 use Rattle.session.specs.declared.answer.Hand.TheVariants as hand
 use Rattle.script.specs.declared.command.Command.{Command}
@@ -70,7 +70,8 @@ abbrev pub Answers : Session → Held ℕ → Command → Answer → Session →
 Answers s q command.Share a t r = (a ≡ Done) × (t.hand ≡ hand.Share) × (t.loaded ≡ s.loaded) × (r ≡ q)
 Answers s q (command.Load image) a t r = Loads s (vec_items image) a t × (r ≡ q)
 Answers s q command.Table a t r = (a ≡ InHand s.hand (in_hand s).states) × (t ≡ s) × (r ≡ q)
-Answers s q (command.Ask question) a t r = Tells (in_hand s) (marks_in_hand s) question a × (t ≡ s) × (r ≡ q)
+Answers s q (command.Ask question) a t r = Tells (in_hand s) question a × (t ≡ s) × (r ≡ q)
+Answers s q (command.Open state) a t r = (a ≡ Open (tells_open (in_hand s) (marks_in_hand s) state)) × (t ≡ s) × (r ≡ q)
 Answers s q (command.Make m) a t r = (a ≡ Done) × (t ≡ s) × (r ≡ q)
 Answers s q (command.Queue request) a t r = Replies q request a r × (t ≡ s)
 
@@ -86,6 +87,7 @@ makes command.Share = None
 makes (command.Load image) = None
 makes command.Table = None
 makes (command.Ask question) = None
+makes (command.Open state) = None
 makes (command.Make m) = Some m
 makes (command.Queue request) = None
 

@@ -1,6 +1,5 @@
--- What a charted table answers to a question.
-use Rattle.std.specs.Prelude.{◌≡◌, ℕ, ◌<◌, ◌≤◌, Bool, List, length, Option, MatchOption}
-use Rattle.tables.specs.Openness.{tells_open}
+-- What a rule table answers to a question.
+use Rattle.std.specs.Prelude.{◌≡◌, ℕ, ◌<◌, ◌≤◌, List, length, Option, MatchOption}
 use Rattle.tables.specs.Table.{Table, tells_next, tells_label}
 use Rattle.graphs.specs.Graph.{Leads}
 use Rattle.graphs.specs.Routes.{steps_of}
@@ -10,7 +9,7 @@ use Rattle.charts.specs.Slots.{forward}
 use Rattle.cycles.specs.Finding.{Finds}
 use Rattle.cycles.specs.declared.found.Found.{Found}
 use Rattle.script.specs.declared.command.Question.{Question}
-use Rattle.script.specs.declared.command.Question.TheVariants.{States, Next, Label, Open, Search, Find}
+use Rattle.script.specs.declared.command.Question.TheVariants.{States, Next, Label, Search, Find}
 use Rattle.session.specs.declared.answer.Answer.{Answer}
 use Rattle.session.specs.declared.answer.Answer.TheVariants as answer
 
@@ -25,12 +24,10 @@ pub record LeadsTo (t : Table) (from to : ℕ) (p : Route) : Type 0 where
 abbrev pub Gives : Table → ℕ → ℕ → Option Route → Type 0
 Gives t from to answer = MatchOption answer ((steps : List Step) → 0 < length steps → Leads (forward t) from steps to → ⊥) (LeadsTo t from to)
 
--- The answer to a question, by the meaning of the table and what it tells of open states. A path and a cycle are known
--- by their properties.
-abbrev pub Tells : Table → (ℕ → Bool) → Question → Answer → Type 0
-Tells t marks States a = a ≡ answer.States t.states
-Tells t marks (Next state byte) a = a ≡ answer.Next (tells_next t state byte)
-Tells t marks (Label state) a = a ≡ answer.Label (tells_label t state)
-Tells t marks (Open state) a = a ≡ answer.Open (tells_open t marks state)
-Tells t marks (Search from to) a = (p : Option Route) × Gives t from to p × (a ≡ answer.Path p)
-Tells t marks Find a = (f : Found) × Finds (forward t) f × (a ≡ answer.Found f)
+-- The answer to a question, by the meaning of the table. A path and a cycle are known by their properties.
+abbrev pub Tells : Table → Question → Answer → Type 0
+Tells t States a = a ≡ answer.States t.states
+Tells t (Next state byte) a = a ≡ answer.Next (tells_next t state byte)
+Tells t (Label state) a = a ≡ answer.Label (tells_label t state)
+Tells t (Search from to) a = (p : Option Route) × Gives t from to p × (a ≡ answer.Path p)
+Tells t Find a = (f : Found) × Finds (forward t) f × (a ≡ answer.Found f)

@@ -14,7 +14,6 @@ use queues::queue::Queue;
 use queues::refusals::{DropRefusal, PutRefusal};
 use script::command::Question;
 use script::request::Request;
-use tables::charted::Charted;
 use tables::table::RuleTable;
 
 // Which table is in hand.
@@ -52,15 +51,14 @@ fn path<T: RuleTable>(table: &T, from: usize, to: usize) -> Option<Route>
     Reached::search(&Forward::new(table), &starts).route_to(to)
 }
 
-// What a charted table answers to a question.
-pub fn ask<T: Charted>(table: &T, question: Question) -> Answer
-    ensures { Tells (T.RuleTable.meaning table.now) (T.marks table.now) question result }
+// What a rule table answers to a question.
+pub fn ask<T: RuleTable>(table: &T, question: Question) -> Answer
+    ensures { Tells (T.meaning table.now) question result }
 {
     match question {
         Question::States => Answer::States(table.states()),
         Question::Next { state, byte } => Answer::Next(table.next(state, byte)),
         Question::Label { state } => Answer::Label(table.label(state)),
-        Question::Open { state } => Answer::Open(table.open(state)),
         Question::Search { from, to } => Answer::Path(path(table, from, to)),
         Question::Find => Answer::Found(find(&Forward::new(table))),
     }

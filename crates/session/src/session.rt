@@ -2,6 +2,7 @@
 ghost use Rattle.session.specs.Sessions.{Answers, Fresh, Loads, Plays, in_hand, making_of, marks_in_hand};
 ghost use Rattle.session.specs.Telling.{Tells};
 ghost use Rattle.std.specs.Prelude.{◌≡◌, MatchResult};
+ghost use Rattle.tables.specs.Openness.{tells_open};
 
 use crate::answer::{Answer, Hand, ask, reply};
 use charts::chart::Chart;
@@ -11,6 +12,7 @@ use script::command::{Command, Question};
 use script::mistake::{Mistake, Unread};
 use script::request::Making;
 use std::alloc::{AllocError, Global};
+use tables::charted::Charted;
 use tables::share::ShareTable;
 use tables::table::RuleTable;
 
@@ -56,13 +58,23 @@ impl Session {
     }
 
     // Asks the table in hand. The tables are of two types, no closure is generic over both, and a `dyn` of one could not be
-    // handed out, so `states` below switches too.
+    // handed out, so the two below switch too.
     fn ask(&self, question: Question) -> Answer
-        ensures { Tells (in_hand self.now) (marks_in_hand self.now) question result }
+        ensures { Tells (in_hand self.now) question result }
     {
         match self.hand {
             Hand::Share => ask(&ShareTable, question),
             Hand::Loaded => ask(&self.loaded, question),
+        }
+    }
+
+    // Whether a state of the table in hand is open.
+    fn open(&self, state: usize) -> Option<bool>
+        ensures { result ≡ tells_open (in_hand self.now) (marks_in_hand self.now) state }
+    {
+        match self.hand {
+            Hand::Share => ShareTable.open(state),
+            Hand::Loaded => self.loaded.open(state),
         }
     }
 
@@ -106,6 +118,7 @@ impl Session {
                 states: self.states(),
             },
             Command::Ask(question) => self.ask(*question),
+            Command::Open { state } => Answer::Open(self.open(*state)),
             Command::Make(_) => Answer::Done,
             Command::Queue(request) => reply(queue, *request),
         }

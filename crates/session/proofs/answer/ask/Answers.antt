@@ -10,5 +10,5 @@ pub returns-in-Find : goal.returns-in-Find
 returns-in-Find g c =
     let meaning = g.T.RuleTable.meaning in
     let table = c.args.table.now in
-    subst (λ (q : Question). Tells (meaning table) (g.T.Charted.marks table) q (answer.Found c.find.result)) (sym c.in-Find.is)
+    subst (λ (q : Question). Tells (meaning table) q (answer.Found c.find.result)) (sym c.in-Find.is)
     (c.find.result, subst (λ t. Finds (forward (meaning t)) c.find.result) c.new.ensures c.find.ensures, refl)
