@@ -1,3 +1,2 @@
 pub mod Accepting
 pub mod Slots
-pub mod SlotsBounded

@@ -1,6 +1,5 @@
 // The backward graph of a rule table.
 ghost use Rattle.charts.specs.Slots.{backward};
-ghost use Rattle.charts.specs.SlotsBounded.{backward_is_bounded};
 ghost use Rattle.std.specs.Prelude.{◌≡◌};
 
 use crate::slots::{BYTES, byte_of};
@@ -27,8 +26,6 @@ impl<'t, T: RuleTable> Backward<'t, T> {
 
 impl<'t, T: RuleTable> Graph for Backward<'t, T> {
     ghost meaning = { λ g. backward (T.RuleTable.meaning g.table.now) };
-
-    ghost bounded = { λ g. backward_is_bounded (T.RuleTable.meaning g.table.now) (T.RuleTable.sound g.table.now) };
 
     fn nodes(&self) -> usize {
         self.table.states()

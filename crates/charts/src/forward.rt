@@ -1,6 +1,5 @@
 // The forward graph of a rule table.
 ghost use Rattle.charts.specs.Slots.{forward};
-ghost use Rattle.charts.specs.SlotsBounded.{forward_is_bounded};
 ghost use Rattle.std.specs.Prelude.{◌≡◌};
 
 use crate::slots::{BYTES, byte_of};
@@ -24,8 +23,6 @@ impl<'t, T: RuleTable> Forward<'t, T> {
 
 impl<'t, T: RuleTable> Graph for Forward<'t, T> {
     ghost meaning = { λ g. forward (T.RuleTable.meaning g.table.now) };
-
-    ghost bounded = { λ g. forward_is_bounded (T.RuleTable.meaning g.table.now) (T.RuleTable.sound g.table.now) };
 
     fn nodes(&self) -> usize {
         self.table.states()

@@ -27,6 +27,7 @@ enum Next {
 fn scan<G: Graph>(graph: &G, search: &Search, node: usize, known: Told) -> Next
     requires known { Knows (G.meaning graph.now) search.now.marks node known }
     requires low { (v : ℕ) → rank (mark_of search.now.marks v) ≤ 128 }
+    requires few { (G.meaning graph.now).nodes ≤ 128 }
     ensures { Scanned (G.meaning graph.now) search.now.marks node result }
 {
     let slots = graph.slots();

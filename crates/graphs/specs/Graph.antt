@@ -1,5 +1,5 @@
 -- What a graph means, and its paths.
-use Rattle.std.specs.Prelude.{◌≡◌, ℕ, ◌<◌, ◌≤◌, Bool, true, cond, ◌&&◌, List, [], ◌∷◌, length, IfSome, Some, None, Option, nat_lt}
+use Rattle.std.specs.Prelude.{◌≡◌, ℕ, ◌<◌, Bool, true, cond, ◌&&◌, List, [], ◌∷◌, length, IfSome, Some, None, Option, nat_lt}
 use Rattle.graphs.specs.declared.route.Step.{Step}
 
 -- A graph: its nodes and the slots of each node are numbered from 0, and a slot leads to a neighbour or nowhere.
@@ -7,11 +7,6 @@ pub record Edges : Type 0 where
   pub nodes : ℕ
   pub slots : ℕ
   pub neighbour : ℕ → ℕ → Option ℕ
-
--- What holds of every graph: it has 1 to 128 nodes.
-pub record Bounded (g : Edges) : Type 0 where
-  pub some : 1 ≤ g.nodes
-  pub few : g.nodes ≤ 128
 
 -- Where a slot of a node leads: nowhere, if there is no such node or slot.
 abbrev pub tells : Edges → ℕ → ℕ → Option ℕ

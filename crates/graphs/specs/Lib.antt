@@ -1,7 +1,6 @@
 pub mod Arrivals
 pub mod Graph
 pub mod Narrowed
-pub mod NarrowedBounded
 pub mod Nodes
 pub mod Routes
 pub mod Searching

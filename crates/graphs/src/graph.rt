@@ -1,5 +1,5 @@
 // What every graph tells.
-ghost use Rattle.graphs.specs.Graph.{Bounded, Edges, Inside, tells};
+ghost use Rattle.graphs.specs.Graph.{Edges, Inside, tells};
 ghost use Rattle.std.specs.Prelude.{◌≡◌, ◌≤◌};
 
 // The most nodes of a graph.
@@ -24,7 +24,4 @@ pub trait Graph {
     fn neighbour(&self, node: usize, slot: usize) -> Option<usize>
         ensures value { result ≡ tells (meaning self.now) node slot }
         ensures inside { Inside (meaning self.now) result };
-
-    // It has 1 to 128 nodes.
-    ghost bounded: { (g : Self) → Bounded (meaning g) };
 }

@@ -1,6 +1,5 @@
 // A graph with some of the edges of another.
 ghost use Rattle.graphs.specs.Narrowed.{narrowed};
-ghost use Rattle.graphs.specs.NarrowedBounded.{narrowed_is_bounded};
 ghost use Rattle.graphs.specs.Nodes.{has};
 ghost use Rattle.std.specs.Prelude.{◌≡◌};
 
@@ -26,8 +25,6 @@ impl<'g, G: Graph> Narrowed<'g, G> {
 
 impl<'g, G: Graph> Graph for Narrowed<'g, G> {
     ghost meaning = { λ n. narrowed (G.Graph.meaning n.graph.now) (has n.from) (has n.into) };
-
-    ghost bounded = { λ n. narrowed_is_bounded (G.Graph.meaning n.graph.now) (has n.from) (has n.into) (G.Graph.bounded n.graph.now) };
 
     fn nodes(&self) -> usize {
         self.graph.nodes()

@@ -20,13 +20,6 @@ impl NodeSet {
         }
     }
 
-    // The set of the nodes that are marked.
-    pub(crate) fn of(members: [bool; MAX_NODES]) -> NodeSet
-        ensures { result.members ≡ members }
-    {
-        NodeSet { members }
-    }
-
     // Whether `node` is in the set.
     pub fn contains(&self, node: usize) -> bool
         ensures { result ≡ has self.now node }

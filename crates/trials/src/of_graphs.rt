@@ -1,6 +1,5 @@
 // Graphs and charts: the graphs of a small table, the search, the finder, and how often they ask.
-ghost use Rattle.std.proofs.Common.{lit≤};
-ghost use Rattle.std.specs.Prelude.{◌+◌, ◌-◌, if◌then◌else◌, Some, None, nat_eq, nat_lt};
+ghost use Rattle.std.specs.Prelude.{◌+◌, ◌-◌, ◌/◌, if◌then◌else◌, Some, None, nat_eq, nat_lt};
 
 use charts::backward::Backward;
 use charts::chart::Chart;
@@ -137,8 +136,6 @@ struct Line {
 impl Graph for Line {
     ghost meaning = { λ g. record { nodes = 128; slots = 4; neighbour = λ a s. (if nat_eq s 3 then (if g.up then (if nat_lt (a + 1) 128 then Some (a + 1) else None) else (if nat_lt 0 a then Some (a - 1) else None)) else None) } };
 
-    ghost bounded = { λ _. record { some = lit≤ tt; few = lit≤ tt } };
-
     fn nodes(&self) -> usize {
         128
     }
@@ -161,6 +158,39 @@ impl Graph for Line {
     }
 }
 
+// Points with no edge, at most 128 since their number is told by a byte. Of a number that is no byte that would not hold.
+#[derive(Drop)]
+struct Points {
+    twice: u8,
+}
+
+impl Graph for Points {
+    ghost meaning = { λ g. record { nodes = g.twice / 2 + 1; slots = 1; neighbour = λ a s. None } };
+
+    fn nodes(&self) -> usize {
+        self.twice as usize / 2 + 1
+    }
+
+    fn slots(&self) -> usize {
+        1
+    }
+
+    fn neighbour(&self, _node: usize, _slot: usize) -> Option<usize> {
+        None
+    }
+}
+
+#[test]
+fn a_graph_kept_small_by_a_byte(rt: HostRuntime) -> Result<(), Fail> {
+    let points = Points { twice: 255 };
+    assert_eq!(rt; points.nodes(), 128);
+    let narrowed = Narrowed::new(&points, set_of(&[0, 127]), set_of(&[127]));
+    assert!(rt; !Reached::search(&narrowed, &set_of(&[127])).contains(127));
+    let found = find(&narrowed);
+    assert!(rt; !found.is_cycle() && found.route().steps().is_empty());
+    Ok(())
+}
+
 // A graph that counts how often each slot of each node is asked.
 #[derive(Drop)]
 struct Counting<'g, G> {
@@ -170,8 +200,6 @@ struct Counting<'g, G> {
 
 impl<'g, G: Graph> Graph for Counting<'g, G> {
     ghost meaning = { λ c. G.Graph.meaning c.graph.now };
-
-    ghost bounded = { λ c. G.Graph.bounded c.graph.now };
 
     fn nodes(&self) -> usize {
         self.graph.nodes()

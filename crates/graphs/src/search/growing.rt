@@ -50,6 +50,7 @@ impl Reached {
     // Marks the neighbours of `node`, which is given or reached.
     fn expand<G: Graph>(&mut self, graph: &G, starts: &NodeSet, node: usize)
         requires known { Known (has starts.now) self.old.arrivals node }
+        requires few { (G.meaning graph.now).nodes ≤ 128 }
         requires grown { Grown (G.meaning graph.now) (has starts.now) self.old.arrivals }
         ensures { Expanded (G.meaning graph.now) (has starts.now) node self.old.arrivals self.new.arrivals }
     {
@@ -74,10 +75,11 @@ impl Reached {
 
     // Notes an arrival at `node`, if it is the first.
     fn note(&mut self, node: usize, arrival: Arrival)
-        requires { reached_at self.old.arrivals node ≡ false → arrival.steps ≤ 128 }
+        requires inside { node < 128 }
+        requires few { reached_at self.old.arrivals node ≡ false → arrival.steps ≤ 128 }
         ensures { self.new.arrivals ≡ noted self.old.arrivals node arrival }
     {
-        if node < MAX_NODES && self.arrivals[node].is_none() {
+        if self.arrivals[node].is_none() {
             self.arrivals[node] = Some(arrival);
         }
     }

@@ -23,7 +23,14 @@ impl Reached {
     pub fn nodes(&self) -> NodeSet
         ensures { (k : ℕ) → has result k ≡ reached self.now k }
     {
-        NodeSet::of(self.arrivals.map(|arrival| arrival.is_some()))
+        // Marked one by one: the notes mapped, as an array, would be copied whole for it.
+        let mut nodes = NodeSet::empty();
+        for node in 0..MAX_NODES {
+            if self.contains(node) {
+                nodes.insert(node);
+            }
+        }
+        nodes
     }
 
     // How the search came to `node`, or `None` where it did not.

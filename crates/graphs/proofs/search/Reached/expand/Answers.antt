@@ -9,8 +9,10 @@ use Rattle.graphs.proofs.search.Reached.expand.Goals.{in-Some, in_default}
 pub note-requires : goal.note-requires
 note-requires g c =
     let told = c.in-Some.ensures in
-    let few = (g.met.G.Graph.bounded c.args.graph.now).few in
-    λ new. omega (arith, grows_few (g.G.Graph.meaning c.args.graph.now) (has c.args.starts.now) c.args.node c.loop-slot.slot c.if-contains.steps c.in-Some.to c.args.self.now.arrivals c.loop-slot.self.arrivals c.loop-slot.self.long few c.loop-slot.invariant (sym told.value) told.inside new, few)
+    record {
+      inside = omega (arith, told.inside, c.requires.few);
+      few = λ new. omega (arith, grows_few (g.G.Graph.meaning c.args.graph.now) (has c.args.starts.now) c.args.node c.loop-slot.slot c.if-contains.steps c.in-Some.to c.args.self.now.arrivals c.loop-slot.self.arrivals c.loop-slot.self.long c.requires.few c.loop-slot.invariant (sym told.value) told.inside new, c.requires.few);
+    }
 
 pub loop-slot-preserved : goal.loop-slot-preserved
 loop-slot-preserved g c =
@@ -19,7 +21,7 @@ loop-slot-preserved g c =
     let at = c.loop-slot.slot in
     let before = c.args.self.now.arrivals in
     let xs = c.loop-slot.self.arrivals in
-    let few = (g.met.G.Graph.bounded c.args.graph.now).few in
+    let few = c.requires.few in
     elim c.match-neighbour.branch [
       | in-Some w ↦
           let told = w.in-Some.ensures in
