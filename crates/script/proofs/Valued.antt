@@ -1,61 +1,88 @@
--- Words of digits, and the number that one writes.
-use Rattle.std.proofs.Common.{◌≡◌, ℕ, zero, suc, ◌^◌, ◌<◌, true, false, ◌&&◌, ltb, List, [], ◌∷◌, length, Some, None, Ok, Err, Result, Bor, Option, MatchOption, MatchResult, sym, refl, ap, ◌∙◌, subst, ⊎_elim, arith}
-use Rattle.std.proofs.lemmas.Str.{IsUtf8-from_ascii}
-use Rattle.std.proofs.lemmas.Str.Parse.{IsNumeralModel, numerals_by_value, parse_digits, tells_all_ascii_digits}
-use Rattle.std.proofs.lemmas.Bool.{and_from, and_parts, cond-true, cond-false, lt-ltb, ltb-true, cases_Bool}
+-- The value of a word's digits, read one after another.
+use Rattle.std.proofs.Common.{◌≡◌, ℕ, zero, suc, ◌+◌, ◌-◌, ◌*◌, ◌<◌, ◌≤◌, true, false, ltb, List, [], ◌∷◌, ◌++◌, map, length, get_or, take, drop, Some, None, sym, refl, ap, ◌∙◌, subst, arith}
+use Rattle.std.proofs.lemmas.Int.Digits.{number_after_append, number_after_ge, digits_value_is, digits_value_more}
+use Rattle.std.proofs.lemmas.List.{map-append, take-append-drop, take_more}
+use Rattle.std.proofs.lemmas.Str.Parse.{IsNumeralModel, numerals_by_value, tells_all_ascii_digits}
+use Rattle.std.proofs.lemmas.Bool.{and_left, and_right, and_from, and_parts, cond-true, cond-false, le-ltb, lt-ltb}
 use Rattle.std.proofs.lemmas.Bool.Decides.{nat_tests}
-use Rattle.std.specs.Char.{is_ascii_digit}
-use Rattle.std.specs.List.{list_all}
-use Rattle.std.specs.Result.{OkIff, result_ok}
-use Rattle.std.specs.Str.Parse.{digits_value, ParsesUnsigned}
-use Rattle.std.specs.Str.{all_ascii_digits, IsAscii, IsUtf8}
+use Rattle.std.specs.Str.Parse.{digits_value}
+use Rattle.std.specs.Char.{is_ascii_digit, digit_value as digitValue}
+use Rattle.std.specs.Int.Digits.{number_from_digits, number_from_digits_after}
+use Rattle.std.specs.Str.{all_ascii_digits}
 use Rattle.script.specs.Numbers.{word_is_below, below}
 
 pub own : IsNumeralModel (λ ds. all_ascii_digits ds ≡ true) (digits_value 10)
 own = numerals_by_value (λ ds. all_ascii_digits ds ≡ true) tells_all_ascii_digits
 
-pub digits_all : (word : List ℕ) → all_ascii_digits word ≡ list_all is_ascii_digit word
-digits_all [] = refl
-digits_all (b ∷ bs) = ap (λ t. is_ascii_digit b && t) (digits_all bs)
+pub digit_value : (b : ℕ) → is_ascii_digit b ≡ true → digitValue b ≡ b - 48
+digit_value b h = grind (arith, nat_tests)
 
-digit_ascii : (b : ℕ) → is_ascii_digit b ≡ true → b < 128
-digit_ascii b h = grind (arith, nat_tests)
+-- a byte is a digit where its character has a value below ten, and no other is
+pub digit_since : (b c : ℕ) → c ≡ b → digitValue c < 10 → is_ascii_digit b ≡ true
+digit_since b c e h = subst (λ n. is_ascii_digit n ≡ true) e (value_low c h)
+  where
+    value_low : (n : ℕ) → digitValue n < 10 → is_ascii_digit n ≡ true
+    value_low n h = grind (arith, nat_tests)
 
-ascii : (word : List ℕ) → all_ascii_digits word ≡ true → IsAscii word
-ascii [] h i = omega arith
-ascii (b ∷ bs) h zero = digit_ascii b (and_parts (is_ascii_digit b) (all_ascii_digits bs) h).0
-ascii (b ∷ bs) h (suc i) = ascii bs (and_parts (is_ascii_digit b) (all_ascii_digits bs) h).1 i
+pub digit_of : (b c : ℕ) → c ≡ b → is_ascii_digit b ≡ true → digitValue c ≡ b - 48
+digit_of b c e h = ap digitValue e ∙ digit_value b h
 
--- digits are text
-abbrev pub Told : List ℕ → Option (Bor (List ℕ)) → Type 0
-Told word o = MatchOption o (all_ascii_digits word ≡ false) (λ text. (text.now ≡ word) × (all_ascii_digits word ≡ true))
+pub other_since : (b c : ℕ) → c ≡ b → (digitValue c < 10 → ⊥) → is_ascii_digit b ≡ false
+other_since b c e h = subst (λ n. is_ascii_digit n ≡ false) e (value_high c h)
+  where
+    value_high : (n : ℕ) → (digitValue n < 10 → ⊥) → is_ascii_digit n ≡ false
+    value_high n h = grind (arith, nat_tests)
 
-pub text_of : {E : Type 0} (Q : E → Type 0) (word : List ℕ) (r : Result (Bor (List ℕ)) E) → all_ascii_digits word ≡ true → MatchResult r (λ s. (s.now ≡ word) × IsUtf8 word) (λ e. (IsUtf8 word → ⊥) × Q e) → Told word (result_ok r)
-text_of Q word (Ok s) all told = (told.0, all)
-text_of Q word (Err e) all told = absurd (told.0 (IsUtf8-from_ascii word (ascii word all)))
+-- a front of the digits is worth no more than all of them
+value_front : (word : List ℕ) (k : ℕ) → digits_value 10 (take k word) ≤ digits_value 10 word
+value_front word k =
+    let front = take k word in
+    let back = map digitValue (drop k word) in
+    let whole : digits_value 10 word ≡ number_from_digits_after 10 (digits_value 10 front) back =
+    digits_value_is 10 word
+    ∙ ap (λ l. number_from_digits 10 (map digitValue l)) (sym (take-append-drop k word))
+    ∙ ap (number_from_digits 10) (map-append digitValue front (drop k word))
+    ∙ number_after_append 10 0 (map digitValue front) back
+    ∙ ap (λ n. number_from_digits_after 10 n back) (sym (digits_value_is 10 front)) in
+    omega (arith, whole, number_after_ge 10 (digits_value 10 front) back (omega arith))
 
 module _ (limit : ℕ) (word : List ℕ) where
+  none_since : word_is_below limit word ≡ false → below limit word ≡ None
+  none_since h = cond-false (word_is_below limit word) (Some (digits_value 10 word)) None h
+
+  not_digits : (ds : List ℕ) (i : ℕ) → i < length ds → is_ascii_digit (get_or ds i 0) ≡ false → all_ascii_digits ds ≡ false
+  not_digits [] i h other = absurd (omega arith)
+  not_digits (d ∷ ds) zero h other = and_left (is_ascii_digit d) (all_ascii_digits ds) other
+  not_digits (d ∷ ds) (suc i) h other = and_right (is_ascii_digit d) (all_ascii_digits ds) (not_digits ds i (omega arith) other)
+
+  pub no_word : length word ≡ 0 → below limit word ≡ None
+  no_word h = none_since (and_left (ltb 0 (length word)) _ (le-ltb 0 (length word) (omega arith)))
+
+  pub no_digit : (i : ℕ) → i < length word → is_ascii_digit (get_or word i 0) ≡ false → below limit word ≡ None
+  no_digit i h other = none_since (and_right (ltb 0 (length word)) _ (and_left (all_ascii_digits word) _ (not_digits word i h other)))
+
+  pub too_large : limit ≤ digits_value 10 word → below limit word ≡ None
+  too_large h = none_since (and_right (ltb 0 (length word)) _ (and_right (all_ascii_digits word) _ (le-ltb (digits_value 10 word) limit h)))
+
   pub is_below : 0 < length word → all_ascii_digits word ≡ true → digits_value 10 word < limit → below limit word ≡ Some (digits_value 10 word)
   is_below some digits small =
       cond-true (word_is_below limit word) (Some (digits_value 10 word)) None
       (and_from (ltb 0 (length word)) _ (lt-ltb 0 (length word) some) (and_from (all_ascii_digits word) _ digits (lt-ltb (digits_value 10 word) limit small)))
 
-  none_below : ((0 < length word) × (digits_value 10 word < limit) → ⊥) → below limit word ≡ None
-  none_below other =
-      cond-false (word_is_below limit word) (Some (digits_value 10 word)) None
-      (⊎_elim
-      (λ yes.
-      let first = and_parts (ltb 0 (length word)) (all_ascii_digits word && ltb (digits_value 10 word) limit) yes in
-      let second = and_parts (all_ascii_digits word) (ltb (digits_value 10 word) limit) first.1 in
-      absurd (other (ltb-true 0 (length word) first.0, ltb-true (digits_value 10 word) limit second.1)))
-      (λ f. f)
-      (cases_Bool (word_is_below limit word)))
+-- one digit more
+pub worth : (word : List ℕ) (i v : ℕ) → i < length word → is_ascii_digit (get_or word i 0) ≡ true → v ≡ digits_value 10 (take i word) → v * 10 + (get_or word i 0 - 48) ≡ digits_value 10 (take (i + 1) word)
+worth word i v h is e =
+    ap (λ n. n * 10 + (get_or word i 0 - 48)) e ∙ ap (λ d. digits_value 10 (take i word) * 10 + d) (sym (digit_value (get_or word i 0) is)) ∙ sym (digits_value_more 10 word i h)
 
-  told_below : {E : Type 0} (r : Result ℕ E) → all_ascii_digits word ≡ true → OkIff r ((0 < length word) × (digits_value 10 word < limit)) (digits_value 10 word) → result_ok r ≡ below limit word
-  told_below (Ok x) digits told = ap Some told.1 ∙ sym (is_below told.0.0 digits told.0.1)
-  told_below (Err e) digits told = sym (none_below told)
+pub over : (word : List ℕ) (i v limit : ℕ) → i < length word → is_ascii_digit (get_or word i 0) ≡ true → v ≡ digits_value 10 (take i word) → limit ≤ v * 10 + (get_or word i 0 - 48) → below limit word ≡ None
+over word i v limit h is e large =
+    too_large limit word (omega (arith, worth word i v h is e, value_front word (i + 1)))
 
--- what `parse` gives of digits is the number that they write
-pub parsed : {E : Type 0} (k : ℕ) (word text : List ℕ) (r : Result ℕ E) → text ≡ word → all_ascii_digits word ≡ true → ParsesUnsigned k 10 text r → result_ok r ≡ below (2 ^ k) word
-parsed k word text r is digits told =
-    told_below (2 ^ k) word r digits (parse_digits own k word r (subst (λ t. ParsesUnsigned k 10 t r) is told) digits)
+digits_push : (ds : List ℕ) (d : ℕ) → all_ascii_digits ds ≡ true → is_ascii_digit d ≡ true → all_ascii_digits (ds ++ d ∷ []) ≡ true
+digits_push [] d all is = and_from (is_ascii_digit d) true is refl
+digits_push (x ∷ ds) d all is =
+    let both = and_parts (is_ascii_digit x) (all_ascii_digits ds) all in
+    and_from (is_ascii_digit x) (all_ascii_digits (ds ++ d ∷ [])) both.0 (digits_push ds d both.1 is)
+
+pub digits_more : (word : List ℕ) (i : ℕ) → i < length word → all_ascii_digits (take i word) ≡ true → is_ascii_digit (get_or word i 0) ≡ true → all_ascii_digits (take (i + 1) word) ≡ true
+digits_more word i h all is = ap all_ascii_digits (take_more word i 0 h) ∙ digits_push (take i word) (get_or word i 0) all is
