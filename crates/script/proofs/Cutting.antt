@@ -2,10 +2,10 @@
 use Rattle.std.proofs.Common.{◌≡◌, ℕ, zero, suc, ◌<◌, ◌≤◌, Bool, true, false, not, List, [], ◌∷◌, length, get_or, take, drop, Some, None, sym, refl, ap, ◌∙◌, add-zero, arith}
 use Rattle.std.proofs.lemmas.List.{get_or-drop, length-drop, length-take-le, take-append-drop, take_all}
 use Rattle.std.proofs.lemmas.List.Quantifiers.{position-Some}
-use Rattle.std.proofs.lemmas.Bool.{both_ways, not-true, not-false}
+use Rattle.std.proofs.lemmas.Bool.{cond-true, cond-false, both_ways, not-true, not-false}
 use Rattle.std.specs.List.{position}
 use Rattle.script.specs.Spelling.{Only}
-use Rattle.script.specs.Words.{blank, begins, words}
+use Rattle.script.specs.Words.{blank, begins, with, words, joined}
 use Rattle.script.proofs.Fronts.{Front, front_at, front_none}
 use Rattle.script.proofs.Standing.{no_words, words_past, next_word}
 
@@ -58,3 +58,15 @@ module _ (line text : List ℕ) (n : ℕ) (first : position (λ b. not (blank b)
         ∙ next_word (take m text) (drop m text) (omega (arith, length-take-le m text, end.within, some m refl)) (only_front false text m end.within end.before) (apart text m end.stops)
         ∙ ap (λ l. l ∷ words (drop m text)) (sym head)
         ∙ ap (λ l. word ∷ words l) (sym back)
+
+-- the joined words are the line without its blanks
+with_joined : (b : ℕ) (t : Bool) (ws : List (List ℕ)) → joined (with b t ws) ≡ b ∷ joined ws
+with_joined b t [] = refl
+with_joined b true (w ∷ ws) = refl
+with_joined b false (w ∷ ws) = refl
+
+pub joined_blank : (b : ℕ) (bs : List ℕ) → blank b ≡ true → joined (words (b ∷ bs)) ≡ joined (words bs)
+joined_blank b bs h = ap joined (cond-true (blank b) (words bs) (with b (begins bs) (words bs)) h)
+
+pub joined_other : (b : ℕ) (bs : List ℕ) → blank b ≡ false → joined (words (b ∷ bs)) ≡ b ∷ joined (words bs)
+joined_other b bs h = ap joined (cond-false (blank b) (words bs) (with b (begins bs) (words bs)) h) ∙ with_joined b (begins bs) (words bs)

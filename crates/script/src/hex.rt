@@ -5,7 +5,7 @@ ghost use Rattle.script.specs.Reading.{Reads};
 ghost use Rattle.std.specs.Prelude.{◌≡◌, Ok, Err};
 
 use crate::mistake::{Mistake, Unread};
-use crate::words::Words;
+use crate::words::{Words, is_blank};
 use std::alloc::{AllocError, Global};
 
 // The value of a hexadecimal digit.
@@ -21,15 +21,17 @@ pub(crate) fn hex_bytes(heap: Global, words: Words) -> Result<Vec<u8>, Unread>
 {
     let mut bytes = Vec::new(heap);
     let mut high = None;
-    for word in words {
-        for byte in word {
-            let digit = digit(*byte).ok_or(Mistake::NotHexadecimal)?;
-            match high.take() {
-                None => high = Some(digit),
-                Some(first) => bytes
-                    .push((first * 16 + digit) as u8)
-                    .map_err(AllocError::from)?,
-            }
+    let line = words.line();
+    for byte in line {
+        if is_blank(*byte) {
+            continue;
+        }
+        let digit = digit(*byte).ok_or(Mistake::NotHexadecimal)?;
+        match high.take() {
+            None => high = Some(digit),
+            Some(first) => bytes
+                .push((first * 16 + digit) as u8)
+                .map_err(AllocError::from)?,
         }
     }
     if high.is_some() {

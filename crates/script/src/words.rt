@@ -6,7 +6,7 @@ ghost use Rattle.std.specs.Prelude.{◌≡◌, not, position};
 use std::marker::Model;
 
 // Whether `byte` separates words: a space, a tab or a carriage return.
-fn is_blank(byte: u8) -> bool
+pub(crate) fn is_blank(byte: u8) -> bool
     ensures { result ≡ blank byte }
 {
     matches!(byte, b' ' | b'\t' | b'\r')
@@ -47,6 +47,13 @@ impl<'a> Words<'a> {
         ensures { result ≡ words line.now }
     {
         Words { rest: line }
+    }
+
+    // The line that is left: the words in it, and the blanks.
+    pub(crate) fn line(&self) -> &'a [u8]
+        ensures { words result.now ≡ self.now }
+    {
+        self.rest
     }
 }
 
